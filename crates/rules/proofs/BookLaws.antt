@@ -1,0 +1,171 @@
+-- The words of a book and its tables are the same thing: reading and writing undo each other.
+-- Every law of a word goes by its place, which is the head, a row of a table, or a cell; the places are divided once, here.
+use mathlib.Core.Path.{_≡_, sym, ap, ap₂, _∙_, subst, fun-ext}
+use mathlib.Core.Logic.{_⊎_, inl, inr}
+use mathlib.Core.Bool.{Bool, true, false, _&&_}
+use Prim.Native.Nat.{ℕ, _+_, _-_, _*_, _/_, _%_, _^_, _≤_, _<_}
+use native.Mathlib.Omega.{arith}
+use native.Mathlib.Decide.{decLt}
+use lib.Dec.{ltb}
+use borrow.Author.Tests.{lt-ltb, le-ltb}
+use Rattle.sets.proofs.Logic.{and-in, and-fails-l, and-fails-r}
+use Rattle.sets.proofs.MaskLaws.{only-lt, only-yes, only-no}
+use Rattle.rules.specs.Book.{Book, bookWords, read, write}
+use Rattle.rules.specs.Meaning.{Sized}
+
+-- Two books with the same head, rows and cells are equal.
+pub book-ext : (d e : Book) → ((i : ℕ) → d .head i ≡ e .head i) → ((n r : ℕ) → d .row n r ≡ e .row n r)
+    → ((p t : ℕ) → d .cell p t ≡ e .cell p t) → d ≡ e
+book-ext d e h r c =
+    ap (λ (f : ℕ → ℕ). made f (d .row) (d .cell)) (fun-ext h)
+    ∙ ap (λ (f : ℕ → ℕ → ℕ). made (e .head) f (d .cell)) (fun-ext (λ n. fun-ext (r n)))
+    ∙ ap (λ (f : ℕ → ℕ → ℕ). made (e .head) (e .row) f) (fun-ext (λ p. fun-ext (c p)))
+  where
+    made : (ℕ → ℕ) → (ℕ → ℕ → ℕ) → (ℕ → ℕ → ℕ) → Book
+    made head row cell = record { head = head; row = row; cell = cell }
+
+-- A choice whose test is known.
+module _ {A : Type 0} (x y : A) (t : Bool) where
+  pub chosen : t ≡ true → _≡_ {A = A} (elim t [ true ↦ x | false ↦ y ]) x
+  chosen e = ap (λ (s : Bool). elim s as (λ (z : Bool). A) [ true ↦ x | false ↦ y ]) e
+
+  pub unchosen : t ≡ false → _≡_ {A = A} (elim t [ true ↦ x | false ↦ y ]) y
+  unchosen e = ap (λ (s : Bool). elim s as (λ (z : Bool). A) [ true ↦ x | false ↦ y ]) e
+
+-- What stands at word i, where f is said of the head, g of the rows and h of the cells.
+module _ {A : Type 0} (f : ℕ → A) (g h : ℕ → ℕ → A) where
+  abbrev pub byPlace : ℕ → A
+  byPlace i =
+      elim (ltb i 4) [
+        | true ↦ f i
+        | false ↦ elim (ltb i 580) [ true ↦ g ((i - 4) / 64) ((i - 4) % 64) | false ↦ h ((i - 580) / 64) ((i - 580) % 64) ]
+      ]
+
+  -- Of a word of the head, f is said.
+  pub at-head : (i : ℕ) → i < 4 → byPlace i ≡ f i
+  at-head i l = chosen _ _ (ltb i 4) (lt-ltb i 4 l)
+
+  -- Of row r of table n, g is said.
+  pub at-row : (n r : ℕ) → n < 9 → r < 64 → byPlace (4 + 64 * n + r) ≡ g n r
+  at-row n r l m =
+      let i = 4 + 64 * n + r in
+      let x : (i - 4) / 64 ≡ n = omega arith in
+      let y : (i - 4) % 64 ≡ r = omega arith in
+      unchosen _ _ (ltb i 4) (le-ltb i 4 (omega arith)) ∙ chosen _ _ (ltb i 580) (lt-ltb i 580 (omega arith))
+      ∙ ap₂ g x y
+
+  -- Of the cell of order p and task t, h is said.
+  pub at-cell : (p t : ℕ) → p < 64 → t < 64 → byPlace (580 + 64 * p + t) ≡ h p t
+  at-cell p t l m =
+      let i = 580 + 64 * p + t in
+      let x : (i - 580) / 64 ≡ p = omega arith in
+      let y : (i - 580) % 64 ≡ t = omega arith in
+      unchosen _ _ (ltb i 4) (le-ltb i 4 (omega arith)) ∙ unchosen _ _ (ltb i 580) (le-ltb i 580 (omega arith))
+      ∙ ap₂ h x y
+
+-- What holds at every place holds of every word.
+pub every-place : (P : ℕ → Type 0) → ((i : ℕ) → i < 4 → P i) → ((n r : ℕ) → n < 9 → r < 64 → P (4 + 64 * n + r))
+    → ((p t : ℕ) → p < 64 → t < 64 → P (580 + 64 * p + t)) → (i : ℕ) → i < bookWords → P i
+every-place P f g h i l = go (decLt i 4) (decLt i 580)
+  where
+    go : Dec (i < 4) → Dec (i < 580) → P i
+    go (yes a) b = f i a
+    go (no a) (yes b) =
+        let e : 4 + 64 * ((i - 4) / 64) + (i - 4) % 64 ≡ i = omega arith in
+        subst P e (g ((i - 4) / 64) ((i - 4) % 64) (omega arith) (omega arith))
+    go (no a) (no b) =
+        let e : 580 + 64 * ((i - 580) / 64) + (i - 580) % 64 ≡ i = omega arith in
+        subst P e (h ((i - 580) / 64) ((i - 580) % 64) (omega arith) (omega arith))
+
+-- The word that is written at each place.
+module _ (d : Book) where
+  pub write-head : (i : ℕ) → i < 4 → write d i ≡ d .head i
+  unfolding write
+  write-head = at-head (d .head) (d .row) (d .cell)
+
+  pub write-row : (n r : ℕ) → n < 9 → r < 64 → write d (4 + 64 * n + r) ≡ d .row n r
+  unfolding write
+  write-row = at-row (d .head) (d .row) (d .cell)
+
+  pub write-cell : (p t : ℕ) → p < 64 → t < 64 → write d (580 + 64 * p + t) ≡ d .cell p t
+  unfolding write
+  write-cell = at-cell (d .head) (d .row) (d .cell)
+
+-- A place whose row or column lies outside is no place.
+beyond : (x y m n : ℕ) → (m ≤ x) ⊎ (n ≤ y) → (ltb x m && ltb y n) ≡ false
+beyond x y m n (inl h) = and-fails-l (ltb x m) (ltb y n) (le-ltb x m h)
+beyond x y m n (inr h) = and-fails-r (ltb x m) (ltb y n) (le-ltb y n h)
+
+-- What is read at each place, and outside.
+module _ (w : ℕ → ℕ) where
+  pub read-head : (i : ℕ) → i < 4 → read w .head i ≡ w i
+  unfolding read
+  read-head i h = only-yes (ltb i 4) (w i) (lt-ltb i 4 h)
+
+  pub read-row : (n r : ℕ) → n < 9 → r < 64 → read w .row n r ≡ w (4 + 64 * n + r)
+  unfolding read
+  read-row n r h l = only-yes (ltb n 9 && ltb r 64) _ (and-in (lt-ltb n 9 h) (lt-ltb r 64 l))
+
+  pub read-cell : (p t : ℕ) → p < 64 → t < 64 → read w .cell p t ≡ w (580 + 64 * p + t)
+  unfolding read
+  read-cell p t h l = only-yes (ltb p 64 && ltb t 64) _ (and-in (lt-ltb p 64 h) (lt-ltb t 64 l))
+
+  pub read-no-head : (i : ℕ) → 4 ≤ i → read w .head i ≡ 0
+  unfolding read
+  read-no-head i h = only-no (ltb i 4) (w i) (le-ltb i 4 h)
+
+  pub read-no-row : (n r : ℕ) → (9 ≤ n) ⊎ (64 ≤ r) → read w .row n r ≡ 0
+  unfolding read
+  read-no-row n r h = only-no (ltb n 9 && ltb r 64) _ (beyond n r 9 64 h)
+
+  pub read-no-cell : (p t : ℕ) → (64 ≤ p) ⊎ (64 ≤ t) → read w .cell p t ≡ 0
+  unfolding read
+  read-no-cell p t h = only-no (ltb p 64 && ltb t 64) _ (beyond p t 64 64 h)
+
+-- Nothing stands outside the head and the nine tables; that nothing stands past row 63 is already in `Sized`.
+pub record Placed (d : Book) : Type 0 where
+  pub head-ends : (i : ℕ) → 4 ≤ i → d .head i ≡ 0
+  pub tables-end : (n r : ℕ) → 9 ≤ n → d .row n r ≡ 0
+
+-- Every book that is read has 64 rows of 64-bit words in each table ..
+pub read-sized : (w : ℕ → ℕ) → ((i : ℕ) → w i < 2 ^ 64) → Sized (read w)
+unfolding read
+read-sized w fit = record {
+  head = record { fits = λ i. only-lt (ltb i 4) (w i) (fit i); ends = λ i h. read-no-head w i (omega arith) };
+  rows = λ n. record { fits = λ r. only-lt (ltb n 9 && ltb r 64) _ (fit (4 + 64 * n + r)); ends = λ r h. read-no-row w n r (inr h) };
+  cells = read-no-cell w;
+}
+
+-- .. and nothing outside its places.
+pub read-placed : (w : ℕ → ℕ) → Placed (read w)
+read-placed w = record { head-ends = read-no-head w; tables-end = λ n r h. read-no-row w n r (inl h) }
+
+-- A book that is read and written out again is the same words.
+pub write-read : (w : ℕ → ℕ) (i : ℕ) → i < bookWords → write (read w) i ≡ w i
+write-read w =
+    every-place (λ i. write (read w) i ≡ w i)
+    (λ i h. write-head (read w) i h ∙ read-head w i h)
+    (λ n r h l. write-row (read w) n r h l ∙ read-row w n r h l)
+    (λ p t h l. write-cell (read w) p t h l ∙ read-cell w p t h l)
+
+-- A book that is written out and read again is the same book.
+pub read-write : (d : Book) → Sized d → Placed d → read (write d) ≡ d
+read-write d s p =
+    book-ext (read (write d)) d
+    (λ i. head i (decLt i 4))
+    (λ n r. row n r (decLt n 9) (decLt r 64))
+    (λ q t. cell q t (decLt q 64) (decLt t 64))
+  where
+    head : (i : ℕ) → Dec (i < 4) → read (write d) .head i ≡ d .head i
+    head i (yes h) = read-head (write d) i h ∙ write-head d i h
+    head i (no h) = let l : 4 ≤ i = omega arith in read-no-head (write d) i l ∙ sym (p .head-ends i l)
+
+    row : (n r : ℕ) → Dec (n < 9) → Dec (r < 64) → read (write d) .row n r ≡ d .row n r
+    row n r (yes h) (yes l) = read-row (write d) n r h l ∙ write-row d n r h l
+    row n r (yes h) (no l) = let m : 64 ≤ r = omega arith in read-no-row (write d) n r (inr m) ∙ sym (s .rows n .ends r m)
+    row n r (no h) l = let m : 9 ≤ n = omega arith in read-no-row (write d) n r (inl m) ∙ sym (p .tables-end n r m)
+
+    cell : (q t : ℕ) → Dec (q < 64) → Dec (t < 64) → read (write d) .cell q t ≡ d .cell q t
+    cell q t (yes h) (yes l) = read-cell (write d) q t h l ∙ write-cell d q t h l
+    cell q t (yes h) (no l) = let m : 64 ≤ t = omega arith in read-no-cell (write d) q t (inr m) ∙ sym (s .cells q t (inr m))
+    cell q t (no h) l = let m : 64 ≤ q = omega arith in read-no-cell (write d) q t (inl m) ∙ sym (s .cells q t (inl m))

@@ -1,0 +1,253 @@
+-- Document 01, "The numbers that come back": refusals 1 to 11, the conflicts 20 to 34, the answer and the book afterwards.
+use mathlib.Core.Bool.{Bool, true, false, _&&_, _||_, not}
+use mathlib.Core.List.{List, [], _∷_}
+use Prim.Native.Nat.{ℕ, suc, _-_, _^_}
+use lib.Dec.{ltb, eqb}
+use lib.ListN.{getD}
+use Rattle.sets.specs.Mask.{bit, meet, only, joined}
+use Rattle.sets.specs.Search.{lowest, paired}
+use Rattle.rules.specs.Book.{Book, bookWords, SME, DME, RB, SB, juniors, tasksOf, rolesOf, active, orders, roleIn, subjectIn, read, write, firstBad}
+use Rattle.rules.specs.Trade.{Owner, role, subject, below, reach, ownsRole, ownedTasks, owns, subjectGroup, roleGroup}
+use Rattle.rules.specs.Requests.{Request, Deed, nothing, define, relate, assign, activate, openOrder, allocate, closeOrder, takeBack, Row, rowOf, fits, isOpen, roleHand, subjectHand, change}
+
+-- An answer is 0, accepted, or another number with x and y, which are 0 where nothing is said.
+pub data Said : Type 0 where
+  accepted : Said
+  say : ℕ → ℕ → ℕ → Said
+
+abbrev pub numberOf : Said → ℕ
+numberOf accepted = 0
+numberOf (say n x y) = n
+
+abbrev pub xOf : Said → ℕ
+xOf accepted = 0
+xOf (say n x y) = x
+
+abbrev pub yOf : Said → ℕ
+yOf accepted = 0
+yOf (say n x y) = y
+
+-- the answer s where the test holds, else what the rest gives
+unfoldable pub given : Bool → Said → Said → Said
+given t s rest = elim t [ true ↦ s | false ↦ rest ]
+
+-- number n with the lowest that passes f as x
+unfoldable pub givenLowest : ℕ → (ℕ → Bool) → Said → Said
+givenLowest n f rest = let i = lowest f in given (ltb i 64) (say n i 0) rest
+
+-- number n with x the lowest that has a partner, then y its lowest partner
+unfoldable pub givenPair : ℕ → (ℕ → ℕ → Bool) → Said → Said
+givenPair n f rest = let i = lowest (paired f) in given (ltb i 64) (say n i (lowest (f i))) rest
+
+-- 4: an argument is not what it must be; x = 1, 2 or 3, the first at fault
+unfoldable pub argumentFault : Book → Row → ℕ → ℕ → ℕ → Said → Said
+argumentFault d row a b c rest =
+    given (not (fits d (row .a) a)) (say 4 1 0)
+    (given (not (fits d (row .b) b)) (say 4 2 0)
+    (given (not (fits d (row .c) c)) (say 4 3 0) rest))
+
+-- the active word of c names a role that c owns now
+unfoldable pub activeOwned : Book → ℕ → Bool
+activeOwned d c = not (eqb (d .row active c) 0) && ownsRole d (subject d c) (d .row active c - 1)
+
+-- t is in xs and not in ys
+abbrev pub outside : ℕ → ℕ → ℕ → Bool
+outside xs ys t = bit xs t && not (bit ys t)
+
+-- kind 13: 4 where a is not in order b, then 8 to 11
+unfoldable pub allocateRefusal : Book → ℕ → ℕ → ℕ → Said
+allocateRefusal d a b c =
+    given (not (bit (d .row orders b) a)) (say 4 1 0)
+    (given (not (activeOwned d c)) (say 8 0 0)
+    (given (not (eqb (subjectIn (d .cell b a)) 0)) (say 9 (subjectIn (d .cell b a) - 1) 0)
+    (given (not (eqb (roleIn (d .cell b a)) 0) && not (eqb (roleIn (d .cell b a)) (d .row active c))) (say 10 (roleIn (d .cell b a) - 1) 0)
+    (givenLowest 11 (outside (roleHand d a b) (ownedTasks d (role (d .row active c - 1)))) accepted))))
+
+-- 5 to 11, of a kind whose arguments fit
+unfoldable pub stateRefusal : Book → Deed → ℕ → ℕ → ℕ → Said
+stateRefusal d nothing a b c = accepted
+stateRefusal d (define n) a b c = given (bit (d .head n) a) (say 5 0 0) accepted
+stateRefusal d (relate n) a b c = given (bit (d .row n a) b) (say 5 0 0) (givenLowest 7 (isOpen d) accepted)
+stateRefusal d (assign n) a b c = given (bit (d .row n b) a) (say 5 0 0) accepted
+stateRefusal d activate a b c = given (not (ownsRole d (subject d b) a)) (say 8 0 0) accepted
+stateRefusal d openOrder a b c = given (isOpen d a) (say 5 0 0) accepted
+stateRefusal d allocate a b c = allocateRefusal d a b c
+stateRefusal d closeOrder a b c = accepted
+stateRefusal d (takeBack n) a b c = given (not (bit (d .row n b) a)) (say 6 0 0) accepted
+
+-- 3: a kind outside 1..17
+abbrev pub isNothing : Deed → Bool
+isNothing nothing = true
+isNothing (define n) = false
+isNothing (relate n) = false
+isNothing (assign n) = false
+isNothing activate = false
+isNothing openOrder = false
+isNothing allocate = false
+isNothing closeOrder = false
+isNothing (takeBack n) = false
+
+-- 3 to 11
+unfoldable pub refusal : Book → Request → Said
+refusal d q =
+    let row = rowOf (q .kind) in
+    let rest = stateRefusal d (row .deed) (q .a) (q .b) (q .c) in
+    given (isNothing (row .deed)) (say 3 0 0) (argumentFault d row (q .a) (q .b) (q .c) rest)
+
+-- A conflict, for the arguments a, b, c: its own answer where it is given, else what the rest gives.
+abbrev pub Conflict : Type 0
+Conflict = Book → ℕ → ℕ → ℕ → Said → Said
+
+-- 20: self constraint
+unfoldable pub selfConstraint : Conflict
+selfConstraint d a b c = given (eqb a b) (say 20 0 0)
+
+-- 21 / 22: a and b are already DME / SME
+unfoldable pub alreadyDme : Conflict
+alreadyDme d a b c = given (bit (d .row DME a) b) (say 21 0 0)
+
+unfoldable pub alreadySme : Conflict
+alreadySme d a b c = given (bit (d .row SME a) b) (say 22 0 0)
+
+-- 23: a and b lie in one subject group
+unfoldable pub oneSubjectGroup : Conflict
+oneSubjectGroup d a b c = given (bit (subjectGroup d a) b) (say 23 0 0)
+
+-- 24: a and b lie in one role group
+unfoldable pub oneRoleGroup : Conflict
+oneRoleGroup d a b c = given (bit (roleGroup d a) b) (say 24 0 0)
+
+-- an owner owns a and b
+abbrev pub ownsBoth : Book → Owner → ℕ → ℕ → ℕ → Bool
+ownsBoth d start a b o = let mine = ownedTasks d (start o) in bit mine a && bit mine b
+
+-- 25 / 26: a role / a subject owns a and b; x = lowest
+unfoldable pub roleOwnsBoth : Conflict
+roleOwnsBoth d a b c = givenLowest 25 (ownsBoth d role a b)
+
+unfoldable pub subjectOwnsBoth : Conflict
+subjectOwnsBoth d a b c = givenLowest 26 (ownsBoth d (subject d) a b)
+
+-- u of the set xs and v of the set ys, v in u's row
+abbrev pub between : (ℕ → ℕ) → ℕ → ℕ → ℕ → ℕ → Bool
+between rows xs ys u v = bit xs u && (bit (rows u) v && bit ys v)
+
+-- 27: SME between a task x of a's role group and a task y of b's
+unfoldable pub smeBetweenGroups : Conflict
+smeBetweenGroups d a b c = givenPair 27 (between (d .row SME) (roleGroup d a) (roleGroup d b))
+
+-- 28: DME between a task x of a's subject group and a task y of b's
+unfoldable pub dmeBetweenGroups : Conflict
+dmeBetweenGroups d a b c = givenPair 28 (between (d .row DME) (subjectGroup d a) (subjectGroup d b))
+
+-- 29 / 30: self inheritance, a = b / cycle, a reaches b
+unfoldable pub selfInheritance : Conflict
+selfInheritance d a b c = given (eqb a b) (say 29 0 0)
+
+unfoldable pub cycle : Conflict
+cycle d a b c = given (bit (reach d a) b) (say 30 0 0)
+
+-- t is one of the owned tasks, SME to one that would be gained
+abbrev pub clash : (ℕ → ℕ) → ℕ → ℕ → ℕ → Bool
+clash sme gain owned t = bit owned t && meet (sme t) gain
+
+-- the clashes of each owner that is asked
+abbrev pub clashes : Book → Owner → (ℕ → Bool) → ℕ → ℕ → ℕ → Bool
+clashes d start asked gain o = clash (d .row SME) gain (only (asked o) (ownedTasks d (start o)))
+
+-- 31: x = lowest role, among b and its seniors, that owns a task SME to one it would gain; y = lowest such owned task
+-- 32: x = lowest subject likewise, in kinds 8 and 9 among those owning role b
+-- What is gained: task a in 8, all tasks owned by role a in 9 and 10.
+abbrev pub gained : Book → ℕ → ℕ → ℕ
+gained d n a = elim (eqb n tasksOf) [ true ↦ 2 ^ a | false ↦ ownedTasks d (role a) ]
+
+unfoldable pub taskAssignment : ℕ → Conflict
+taskAssignment n d a b c = givenPair 31 (clashes d role (λ o. ownsRole d (role o) b) (gained d n a))
+
+unfoldable pub roleAssignment : ℕ → Conflict
+roleAssignment n d a b c = givenPair 32 (clashes d (subject d) (λ o. ownsRole d (subject d o) b) (gained d n a))
+
+-- kind 10: b itself
+unfoldable pub ownRoleAssignment : Conflict
+ownRoleAssignment d a b c = givenPair 32 (clashes d (subject d) (eqb b) (gained d rolesOf a))
+
+-- the tasks of order b that c holds
+unfoldable pub heldBy : Book → ℕ → ℕ → ℕ
+heldBy d b c = joined 64 (λ t. only (eqb (subjectIn (d .cell b t)) (suc c)) (2 ^ t)) (d .row orders b)
+
+-- 33 / 34: c already holds a task x in order b that is SME / DME to a task y of a's subject group in the order
+unfoldable pub heldSme : Conflict
+heldSme d a b c = givenPair 33 (between (d .row SME) (heldBy d b c) (subjectHand d a b))
+
+unfoldable pub heldDme : Conflict
+heldDme d a b c = givenPair 34 (between (d .row DME) (heldBy d b c) (subjectHand d a b))
+
+-- Conflicts by kind: 4: 20, 21, 23, 24, 25, 26. 5: 20, 22, 23. 6: 20, 22, 27. 7: 20, 21, 22, 27, 28.
+unfoldable pub pairConflicts : List (List Conflict)
+pairConflicts =
+    (selfConstraint ∷ alreadyDme ∷ oneSubjectGroup ∷ oneRoleGroup ∷ roleOwnsBoth ∷ subjectOwnsBoth ∷ [])
+    ∷ (selfConstraint ∷ alreadySme ∷ oneSubjectGroup ∷ [])
+    ∷ (selfConstraint ∷ alreadySme ∷ smeBetweenGroups ∷ [])
+    ∷ (selfConstraint ∷ alreadyDme ∷ alreadySme ∷ smeBetweenGroups ∷ dmeBetweenGroups ∷ [])
+    ∷ []
+
+-- 8: 31, 32. 9: 29, 30, 31, 32. 10: 32.
+unfoldable pub assignConflicts : ℕ → List Conflict
+assignConflicts n =
+    getD
+    ((selfInheritance ∷ cycle ∷ taskAssignment juniors ∷ roleAssignment juniors ∷ [])
+    ∷ (taskAssignment tasksOf ∷ roleAssignment tasksOf ∷ [])
+    ∷ (ownRoleAssignment ∷ [])
+    ∷ [])
+    (n - juniors) []
+
+-- 13: 33, 34. Others none.
+unfoldable pub conflicts : Deed → List Conflict
+conflicts nothing = []
+conflicts (define n) = []
+conflicts (relate n) = getD pairConflicts n []
+conflicts (assign n) = assignConflicts n
+conflicts activate = []
+conflicts openOrder = []
+conflicts allocate = heldSme ∷ heldDme ∷ []
+conflicts closeOrder = []
+conflicts (takeBack n) = []
+
+-- the first that is given, in the order listed
+unfoldable pub firstOf : List Conflict → Book → ℕ → ℕ → ℕ → Said
+firstOf [] d a b c = accepted
+firstOf (f ∷ fs) d a b c = let rest = firstOf fs d a b c in f d a b c rest
+
+unfoldable pub conflict : Book → Request → Said
+conflict d q = firstOf (conflicts (rowOf (q .kind) .deed)) d (q .a) (q .b) (q .c)
+
+-- the first of two answers that is not 0
+unfoldable pub orElse : Said → Said → Said
+orElse accepted s = s
+orElse (say n x y) s = say n x y
+
+-- 2: some word is bad; x = lowest index
+unfoldable pub judge : Book → Request → Said
+judge d q =
+    let i = firstBad d in
+    let after = conflict d q in
+    let rest = orElse (refusal d q) after in
+    given (ltb i bookWords) (say 2 i 0) rest
+
+-- the blind change
+unfoldable pub blind : Book → Request → Book
+blind d q = change d (rowOf (q .kind) .deed) (q .a) (q .b) (q .c)
+
+-- Any answer but 0 leaves the book untouched.
+unfoldable pub kept : Said → Book → Request → Book
+kept accepted d q = blind d q
+kept (say n x y) d q = d
+
+-- THE ANSWER to a request on a lent slice of n words w. 1: the slice hasn't 4,676 words.
+unfoldable pub answer : ℕ → (ℕ → ℕ) → Request → Said
+answer n w q = given (not (eqb n bookWords)) (say 1 0 0) (judge (read w) q)
+
+-- THE WORDS AFTERWARDS, by the answer: those of the changed book where it is 0, else those that stood there.
+unfoldable pub wordsAfter : Said → (ℕ → ℕ) → Request → ℕ → ℕ
+wordsAfter accepted w q = write (blind (read w) q)
+wordsAfter (say n x y) w q = w

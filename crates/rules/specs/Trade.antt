@@ -1,0 +1,53 @@
+-- Document 01, "Words of the trade": reach, owns, the two groups, excludes.
+-- proofs/TradeLaws.antt shows that each computed set is what the document says of chains.
+use mathlib.Core.Bool.{Bool, _||_}
+use Prim.Native.Nat.{ℕ, _-_, _^_}
+use lib.Bits.{bitOr}
+use Rattle.sets.specs.Mask.{bit, joined}
+use Rattle.chains.specs.Closure.{close, group}
+use Rattle.rules.specs.Book.{Book, SME, DME, RB, SB, juniors, tasksOf, rolesOf}
+
+-- the roles of m and all roles that they reach
+unfoldable pub below : Book → ℕ → ℕ
+below d m = close 64 (d .row juniors) m
+
+-- Role r reaches q if a chain of one or more direct-junior steps leads from r to q.
+unfoldable pub reach : Book → ℕ → ℕ
+reach d r = below d (d .row juniors r)
+
+-- An owner is one who starts with a set of roles: a role with itself, a subject with its assigned roles.
+abbrev pub Owner : Type 0
+Owner = ℕ → ℕ
+
+abbrev pub role : Owner
+role r = 2 ^ r
+
+abbrev pub subject : Book → Owner
+subject d = d .row rolesOf
+
+-- An owner owns the roles that it starts with and all that they reach ..
+abbrev pub ownsRole : Book → ℕ → ℕ → Bool
+ownsRole d start r = bit (below d start) r
+
+-- .. and the tasks assigned to all these.
+unfoldable pub ownedTasks : Book → ℕ → ℕ
+ownedTasks d start = joined 64 (d .row tasksOf) (below d start)
+
+abbrev pub owns : Book → ℕ → ℕ → Bool
+owns d start t = bit (ownedTasks d start) t
+
+-- The subject group of t is t and all tasks joined to it by chains of SB.
+unfoldable pub subjectGroup : Book → ℕ → ℕ
+subjectGroup d t = group (d .row SB) t
+
+-- The rows of two tables mixed.
+abbrev pub mixed : Book → ℕ → ℕ → ℕ → ℕ
+mixed d m n u = bitOr (d .row m u) (d .row n u)
+
+-- The role group is the same with SB and RB mixed.
+unfoldable pub roleGroup : Book → ℕ → ℕ
+roleGroup d t = group (mixed d SB RB) t
+
+-- u excludes v if v is in u's SME or DME row.
+abbrev pub excludes : Book → ℕ → ℕ → Bool
+excludes d u v = bit (d .row SME u) v || bit (d .row DME u) v
