@@ -24,7 +24,7 @@ book-ext d e h r c =
     made : (ℕ → ℕ) → (ℕ → ℕ → ℕ) → (ℕ → ℕ → ℕ) → Book
     made head row cell = record { head = head; row = row; cell = cell }
 
--- A choice whose test is known.
+-- A choice whose test is known: what is given where it holds, and where it fails.
 module _ {A : Type 0} (x y : A) (t : Bool) where
   pub chosen : t ≡ true → _≡_ {A = A} (elim t [ true ↦ x | false ↦ y ]) x
   chosen e = ap (λ (s : Bool). elim s as (λ (z : Bool). A) [ true ↦ x | false ↦ y ]) e
@@ -77,47 +77,63 @@ every-place P f g h i l = go (decLt i 4) (decLt i 580)
         let e : 580 + 64 * ((i - 580) / 64) + (i - 580) % 64 ≡ i = omega arith in
         subst P e (h ((i - 580) / 64) ((i - 580) % 64) (omega arith) (omega arith))
 
--- The word that is written at each place.
+-- The word that is written at each place is what stands there:
 module _ (d : Book) where
+  -- in the head;
   pub write-head : (i : ℕ) → i < 4 → write d i ≡ d .head i
   unfolding write
   write-head = at-head (d .head) (d .row) (d .cell)
 
+  -- in a table;
   pub write-row : (n r : ℕ) → n < 9 → r < 64 → write d (4 + 64 * n + r) ≡ d .row n r
   unfolding write
   write-row = at-row (d .head) (d .row) (d .cell)
 
+  -- in a cell.
   pub write-cell : (p t : ℕ) → p < 64 → t < 64 → write d (580 + 64 * p + t) ≡ d .cell p t
   unfolding write
   write-cell = at-cell (d .head) (d .row) (d .cell)
+
+-- Past the last word nothing is written.
+pub write-past : (d : Book) → Sized d → (i : ℕ) → bookWords ≤ i → write d i ≡ 0
+unfolding write
+write-past d s i h =
+    unchosen _ _ (ltb i 4) (le-ltb i 4 (omega arith)) ∙ unchosen _ _ (ltb i 580) (le-ltb i 580 (omega arith))
+    ∙ s .cells ((i - 580) / 64) ((i - 580) % 64) (inl (omega arith))
 
 -- A place whose row or column lies outside is no place.
 beyond : (x y m n : ℕ) → (m ≤ x) ⊎ (n ≤ y) → (ltb x m && ltb y n) ≡ false
 beyond x y m n (inl h) = and-fails-l (ltb x m) (ltb y n) (le-ltb x m h)
 beyond x y m n (inr h) = and-fails-r (ltb x m) (ltb y n) (le-ltb y n h)
 
--- What is read at each place, and outside.
+-- What is read at each place is its word:
 module _ (w : ℕ → ℕ) where
+  -- in the head;
   pub read-head : (i : ℕ) → i < 4 → read w .head i ≡ w i
   unfolding read
   read-head i h = only-yes (ltb i 4) (w i) (lt-ltb i 4 h)
 
+  -- in a table;
   pub read-row : (n r : ℕ) → n < 9 → r < 64 → read w .row n r ≡ w (4 + 64 * n + r)
   unfolding read
   read-row n r h l = only-yes (ltb n 9 && ltb r 64) _ (and-in (lt-ltb n 9 h) (lt-ltb r 64 l))
 
+  -- in a cell.
   pub read-cell : (p t : ℕ) → p < 64 → t < 64 → read w .cell p t ≡ w (580 + 64 * p + t)
   unfolding read
   read-cell p t h l = only-yes (ltb p 64 && ltb t 64) _ (and-in (lt-ltb p 64 h) (lt-ltb t 64 l))
 
+  -- Nothing is read past the head,
   pub read-no-head : (i : ℕ) → 4 ≤ i → read w .head i ≡ 0
   unfolding read
   read-no-head i h = only-no (ltb i 4) (w i) (le-ltb i 4 h)
 
+  -- past the nine tables or their rows,
   pub read-no-row : (n r : ℕ) → (9 ≤ n) ⊎ (64 ≤ r) → read w .row n r ≡ 0
   unfolding read
   read-no-row n r h = only-no (ltb n 9 && ltb r 64) _ (beyond n r 9 64 h)
 
+  -- or past the cells.
   pub read-no-cell : (p t : ℕ) → (64 ≤ p) ⊎ (64 ≤ t) → read w .cell p t ≡ 0
   unfolding read
   read-no-cell p t h = only-no (ltb p 64 && ltb t 64) _ (beyond p t 64 64 h)

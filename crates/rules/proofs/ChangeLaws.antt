@@ -1,25 +1,25 @@
 -- What the table of seventeen rows asks for, and that every change keeps the book in its place:
 -- 64 rows of 64-bit words in each table, nothing outside, so that the changed book is what its words say.
 -- The table is gone through once, in `known-row`; after that a law goes by what a kind does, with the table as a number.
-use mathlib.Core.Path.{_≡_, refl, sym, _∙_, subst}
+use mathlib.Core.Path.{_≡_, refl, sym, ap, _∙_, subst}
 use mathlib.Core.Logic.{_⊎_, inl, inr}
 use mathlib.Core.Bool.{Bool, true, false, _&&_, not, true≢false}
-use mathlib.Core.List.{List, [], _∷_}
 use Prim.Native.Nat.{ℕ, zero, suc, _^_, _≤_, _<_}
 use native.Mathlib.Omega.{arith}
+use native.Mathlib.Decide.{decLt}
 use lib.Dec.{ltb, eqb}
-use lib.ListN.{getD}
-use lib.Bits.{bitAnd, and-le-r}
+use lib.ListN.{List·getD-eq-default}
 use lib.Pow.{pow-pos}
 use borrow.Author.Tests.{eqb-true, eqb-false, ltb-true}
 use Rattle.sets.specs.Mask.{bit, with, without, within}
 use Rattle.sets.proofs.Logic.{and-out, refute}
-use Rattle.sets.proofs.MaskLaws.{with-lt, without-lt, bit-lt, both-out}
-use Rattle.rules.specs.Book.{Book, tasks, juniors, tasksOf, rolesOf, active, orders, read, write}
+use Rattle.sets.proofs.MaskLaws.{with-lt, without-lt, within-lt, bit-lt, both-out}
+use Rattle.rules.specs.Book.{Book, tasks, SME, DME, RB, SB, juniors, tasksOf, rolesOf, active, orders, read, write}
 use Rattle.rules.specs.Trade.{roleGroup}
 use Rattle.rules.specs.Requests.{Request, define, relate, assign, activate, openOrder, allocate, closeOrder, takeBack, Needs, unused, inRange, aTask, aRole, aSubject, anOpenOrder, aTaskMask, Row, asks, noRow, table, rowOf, isOpen, fits, setRow, addTo, takeFrom, setHead, setTable, setOrder, setActive, firstActive, assigned, roleHand, subjectHand, written, allocated, change}
 use Rattle.rules.specs.Numbers.{accepted, isNothing, refusal, blind}
 use Rattle.rules.specs.Meaning.{Tall, Sized}
+use Rattle.rules.proofs.Upto.{Upto, start, _next_, upto-at}
 use Rattle.rules.proofs.NumberLaws.{Fitting, refusal-out}
 use Rattle.rules.proofs.BookLaws.{unchosen, Placed, read-sized, read-placed, read-write}
 
@@ -31,8 +31,8 @@ pub data Held : ℕ → Needs → Needs → Type 0 where
 
 -- A row of the table, by what its kind does.
 pub data Known : Row → Type 0 where
-  defines : {n : ℕ} → n < 3 → Known (asks (define n) inRange unused unused)
-  relates : {n : ℕ} → n < 4 → Known (asks (relate n) aTask aTask unused)
+  defines : (n : ℕ) → n < 3 → Known (asks (define n) inRange unused unused)
+  relates : (n : ℕ) → n < 4 → Known (asks (relate n) aTask aTask unused)
   assigns : {n : ℕ} {x y : Needs} → Held n x y → Known (asks (assign n) x y unused)
   activates : Known (asks activate aRole aSubject unused)
   opens : Known (asks openOrder inRange unused aTaskMask)
@@ -40,31 +40,27 @@ pub data Known : Row → Type 0 where
   closes : Known (asks closeOrder anOpenOrder unused unused)
   takes-back : {n : ℕ} {x y : Needs} → Held n x y → Known (asks (takeBack n) x y unused)
 
--- P holds of each row of a list.
-data Each (P : Row → Type 0) : List Row → Type 0 where
-  done : Each P []
-  also : {r : Row} {l : List Row} → P r → Each P l → Each P (r ∷ l)
-
-each-at : {P : Row → Type 0} {l : List Row} → P noRow → Each P l → (k : ℕ) → P (getD l k noRow)
-each-at p done k = p
-each-at p (also q e) zero = q
-each-at p (also q e) (suc k) = each-at p e k
-
 -- A kind whose deed is not nothing is one of the seventeen.
 pub known-row : (k : ℕ) → isNothing (rowOf k .deed) ≡ false → Known (rowOf k)
 unfolding rowOf table
-known-row = each-at {P = λ r. isNothing (r .deed) ≡ false → Known r} none
-    (also none
-    (also (λ e. defines (omega arith)) (also (λ e. defines (omega arith)) (also (λ e. defines (omega arith))
-    (also (λ e. relates (omega arith)) (also (λ e. relates (omega arith)) (also (λ e. relates (omega arith)) (also (λ e. relates (omega arith))
-    (also (λ e. assigns a-task) (also (λ e. assigns a-junior) (also (λ e. assigns a-role)
-    (also (λ e. activates) (also (λ e. opens) (also (λ e. allocates) (also (λ e. closes)
-    (also (λ e. takes-back a-task) (also (λ e. takes-back a-junior) (also (λ e. takes-back a-role) done))))))))))))))))))
+known-row k e = go (decLt k 18)
   where
-    none : true ≡ false → Known noRow
-    none e = absurd (true≢false e)
+    seventeen : Upto (λ k. isNothing (rowOf k .deed) ≡ false → Known (rowOf k)) 18
+    seventeen =
+        start next (λ e. absurd (true≢false e))
+        next (λ e. defines 0 (omega arith)) next (λ e. defines 1 (omega arith)) next (λ e. defines 2 (omega arith))
+        next (λ e. relates SME (omega arith)) next (λ e. relates DME (omega arith)) next (λ e. relates RB (omega arith)) next (λ e. relates SB (omega arith))
+        next (λ e. assigns a-task) next (λ e. assigns a-junior) next (λ e. assigns a-role)
+        next (λ e. activates) next (λ e. opens) next (λ e. allocates) next (λ e. closes)
+        next (λ e. takes-back a-task) next (λ e. takes-back a-junior) next (λ e. takes-back a-role)
 
--- What must be a number is one below 64.
+    go : Dec (k < 18) → Known (rowOf k)
+    go (yes h) = upto-at seventeen k h e
+    go (no h) =
+        let past : rowOf k ≡ noRow = List·getD-eq-default table noRow {n = k} (omega arith) in
+        absurd (true≢false (sym (ap (λ (r : Row). isNothing (r .deed)) past) ∙ e))
+
+-- An argument of this need is a number, not a mask and not unused.
 abbrev pub asksNumber : Needs → Bool
 asksNumber unused = false
 asksNumber inRange = true
@@ -74,6 +70,7 @@ asksNumber aSubject = true
 asksNumber anOpenOrder = true
 asksNumber aTaskMask = false
 
+-- An argument that must be a number, and fits, is below 64.
 pub fits-lt : (d : Book) (x : Needs) (v : ℕ) → asksNumber x ≡ true → fits d x v ≡ true → v < 64
 unfolding fits
 fits-lt d unused v n e = absurd (true≢false (sym n))
@@ -90,18 +87,15 @@ pub record Holding (n : ℕ) (x y : Needs) : Type 0 where
   pub holder : asksNumber y ≡ true
   pub table : n < 9
 
+-- So it is of each of the three tables.
 pub held-holding : {n : ℕ} {x y : Needs} → Held n x y → Holding n x y
 held-holding a-task = record { thing = refl; holder = refl; table = omega arith }
 held-holding a-junior = record { thing = refl; holder = refl; table = omega arith }
 held-holding a-role = record { thing = refl; holder = refl; table = omega arith }
 
--- A mask of defined tasks is a word.
-mask-lt : (c m : ℕ) → m < 2 ^ 64 → within c m ≡ true → c < 2 ^ 64
-unfolding within
-mask-lt c m h e = let q = eqb-true (bitAnd c m) c e in omega (arith, and-le-r c m)
-
 -- A statement of rows of which one is changed, from that row and from the others.
-pub set-cases : (rows : ℕ → ℕ) (b v : ℕ) (P : ℕ → ℕ → Type 0) → P b v → ((s : ℕ) → (s ≡ b → ⊥) → P s (rows s)) → (s : ℕ) → P s (setRow rows b v s)
+pub set-cases : (rows : ℕ → ℕ) (b v : ℕ) (P : ℕ → ℕ → Type 0) → P b v → ((s : ℕ) → (s ≡ b → ⊥) → P s (rows s))
+    → (s : ℕ) → P s (setRow rows b v s)
 unfolding setRow
 set-cases rows b v P p q s = go (eqb s b) refl
   where
@@ -109,16 +103,18 @@ set-cases rows b v P p q s = go (eqb s b) refl
     go true e = subst (λ (x : ℕ). P x v) (sym (eqb-true s b e)) p
     go false e = q s (eqb-false s b e)
 
--- One row changed, one number added, one taken.
+-- A table stays 64 rows of words where one row is set ..
 pub set-tall : {rows : ℕ → ℕ} (b v : ℕ) → Tall rows → b < 64 → v < 2 ^ 64 → Tall (setRow rows b v)
 set-tall {rows} b v t hb hv = record {
   fits = set-cases rows b v (λ s x. x < 2 ^ 64) hv (λ s n. t .fits s);
   ends = set-cases rows b v (λ s x. 64 ≤ s → x ≡ 0) (λ h. absurd (omega arith)) (λ s n. t .ends s);
 }
 
+-- .. where a number is added to a row ..
 pub add-tall : {rows : ℕ → ℕ} (b a : ℕ) → Tall rows → b < 64 → a < 64 → Tall (addTo rows b a)
 add-tall {rows} b a t hb ha = set-tall b (with (rows b) a) t hb (with-lt (rows b) a (t .fits b) ha)
 
+-- .. and where one is taken from it.
 pub take-tall : {rows : ℕ → ℕ} (b a : ℕ) → Tall rows → b < 64 → Tall (takeFrom rows b a)
 take-tall {rows} b a t hb = set-tall b (without (rows b) a) t hb (without-lt (rows b) a (t .fits b))
 
@@ -160,7 +156,8 @@ module _ (d : Book) (s : Sized d) where
       tall m true = t
       tall m false = s .rows m
 
-      outside : (m r : ℕ) → 9 ≤ m → d .row m r ≡ 0 → (b : Bool) → eqb m n ≡ b → (elim b as (λ (x : Bool). ℕ → ℕ) [ true ↦ f | false ↦ d .row m ]) r ≡ 0
+      outside : (m r : ℕ) → 9 ≤ m → d .row m r ≡ 0 → (b : Bool) → eqb m n ≡ b
+          → (elim b as (λ (x : Bool). ℕ → ℕ) [ true ↦ f | false ↦ d .row m ]) r ≡ 0
       outside m r l z true e = let q = eqb-true m n e in absurd (omega arith)
       outside m r l z false e = z
 
@@ -184,7 +181,7 @@ module _ (d : Book) (s : Sized d) where
   stamp-keeps : (a b c : ℕ) → b < 64 → Keeps d (allocated d a b c)
   unfolding roleHand
   stamp-keeps a b c hb = record {
-    sized = record { head = s .head; rows = s .rows; cells = λ p t h. unwritten (eqb p b && bit (roleHand d a b) t) (bit (subjectHand d a b) t) (d .row active c) c (d .cell p t) (elsewhere p t h) ∙ s .cells p t h };
+    sized = record { head = s .head; rows = s .rows; cells = λ p t h. untouched p t h ∙ s .cells p t h };
     placed = λ p. record { head-ends = p .head-ends; tables-end = p .tables-end };
   }
     where
@@ -198,6 +195,11 @@ module _ (d : Book) (s : Sized d) where
           let y = both-out (roleGroup d a) (d .row orders b) t (x .1) in
           outside p t h (eqb-true p b (x .0)) (bit-lt (d .row orders b) t (s .rows orders .fits b) (y .1)))
 
+      untouched : (p t : ℕ) → (64 ≤ p) ⊎ (64 ≤ t) → (allocated d a b c) .cell p t ≡ d .cell p t
+      untouched p t h =
+          unwritten (eqb p b && bit (roleHand d a b) t) (bit (subjectHand d a b) t) (d .row active c) c (d .cell p t) (elsewhere p t h)
+
+-- .. also where the first role assigned becomes the active one.
 first-active-keeps : (v : ℕ) (d : Book) (a b : ℕ) → Sized d → a < 64 → b < 64 → Keeps d (firstActive v d a b)
 unfolding firstActive
 first-active-keeps zero d a b s ha hb = active-keeps d s a b ha hb
@@ -209,17 +211,20 @@ module _ (d : Book) (s : Sized d) (a b c : ℕ) where
   unfolding assigned
   assign-keeps n h ha hb = go (eqb n rolesOf)
     where
-      k : Keeps d (setTable d n (addTo (d .row n) b a))
+      added : Book
+      added = setTable d n (addTo (d .row n) b a)
+
+      k : Keeps d added
       k = table-keeps d s n _ h (add-tall b a (s .rows n) hb ha)
 
-      go : (t : Bool) → Keeps d (elim t [ true ↦ firstActive (d .row active b) (setTable d n (addTo (d .row n) b a)) a b | false ↦ setTable d n (addTo (d .row n) b a) ])
-      go true = keeps-then k (first-active-keeps (d .row active b) _ a b (k .sized) ha hb)
+      go : (t : Bool) → Keeps d (elim t [ true ↦ firstActive (d .row active b) added a b | false ↦ added ])
+      go true = keeps-then k (first-active-keeps (d .row active b) added a b (k .sized) ha hb)
       go false = k
 
   change-keeps : {row : Row} → Known row → Fitting d row a b c → Keeps d (change d (row .deed) a b c)
   unfolding change fits
-  change-keeps (defines {n = n} h) f = head-keeps d s n a h (fits-lt d inRange a refl (f .first))
-  change-keeps (relates {n = n} h) f =
+  change-keeps (defines n h) f = head-keeps d s n a h (fits-lt d inRange a refl (f .first))
+  change-keeps (relates n h) f =
       let ha = fits-lt d aTask a refl (f .first) in
       let hb = fits-lt d aTask b refl (f .second) in
       table-keeps d s n _ (omega arith) (add-tall b a (add-tall a b (s .rows n) ha hb) hb ha)
@@ -228,7 +233,8 @@ module _ (d : Book) (s : Sized d) (a b c : ℕ) where
       assign-keeps n (k .table) (fits-lt d x a (k .thing) (f .first)) (fits-lt d y b (k .holder) (f .second))
   change-keeps activates f = active-keeps d s a b (fits-lt d aRole a refl (f .first)) (fits-lt d aSubject b refl (f .second))
   change-keeps opens f =
-      order-keeps d s a c (fits-lt d inRange a refl (f .first)) (mask-lt c (tasks d) (s .head .fits 0) (and-out (not (eqb c 0)) (within c (tasks d)) (f .third) .1))
+      let known = and-out (not (eqb c 0)) (within c (tasks d)) (f .third) .1 in
+      order-keeps d s a c (fits-lt d inRange a refl (f .first)) (within-lt c (tasks d) (s .head .fits 0) known)
   change-keeps allocates f = stamp-keeps d s a b c (fits-lt d anOpenOrder b refl (f .second))
   change-keeps closes f = order-keeps d s a 0 (fits-lt d anOpenOrder a refl (f .first)) (pow-pos 64)
   change-keeps (takes-back {n = n} {x = x} {y = y} h) f =
@@ -249,7 +255,8 @@ module _ {d : Book} (q : Request) (s : Sized d) (e : refusal d q ≡ accepted) w
   blind-placed = blind-keeps .placed
 
 -- The changed book of a book of words is what its own words say.
-pub blind-written : (w : ℕ → ℕ) (q : Request) → ((i : ℕ) → w i < 2 ^ 64) → refusal (read w) q ≡ accepted → read (write (blind (read w) q)) ≡ blind (read w) q
+pub blind-written : (w : ℕ → ℕ) (q : Request) → ((i : ℕ) → w i < 2 ^ 64) → refusal (read w) q ≡ accepted
+    → read (write (blind (read w) q)) ≡ blind (read w) q
 blind-written w q fit e =
     let s = read-sized w fit in
     read-write (blind (read w) q) (blind-sized q s e) (blind-placed q s e (read-placed w))

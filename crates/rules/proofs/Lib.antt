@@ -1,3 +1,9 @@
+pub mod Upto
+pub mod Exactly
 pub mod NumberLaws
 pub mod BookLaws
 pub mod ChangeLaws
+pub mod TradeLaws
+pub mod ShortChains
+pub mod WordLaws
+pub mod AuditLaws

@@ -27,30 +27,35 @@ pub given-in : (t : Bool) (s rest : Said) → t ≡ false → rest ≡ accepted 
 unfolding given
 given-in t s rest e f = ap (λ (x : Bool). given x s rest) e ∙ f
 
--- A search for the lowest gives 0 exactly where no number below 64 passes, and the rest gives 0.
+-- A search for the lowest gives 0 exactly where no number below 64 passes, and the rest gives 0 ..
 pub lowest-out : (n : ℕ) (f : ℕ → Bool) (rest : Said) → givenLowest n f rest ≡ accepted → ((k : ℕ) → k < 64 → f k ≡ false) × (rest ≡ accepted)
 unfolding givenLowest
 lowest-out n f rest e = let g = given-out (ltb (lowest f) 64) n (lowest f) 0 rest e in (none-passes f (g .0), g .1)
 
+-- .. and back.
 pub lowest-in : (n : ℕ) (f : ℕ → Bool) (rest : Said) → ((k : ℕ) → k < 64 → f k ≡ false) → rest ≡ accepted → givenLowest n f rest ≡ accepted
 unfolding givenLowest
 lowest-in n f rest h e = given-in (ltb (lowest f) 64) _ rest (none-found f h) e
 
--- A search for a pair gives 0 exactly where no pair of numbers below 64 passes, and the rest gives 0.
-pub pair-out : (n : ℕ) (f : ℕ → ℕ → Bool) (rest : Said) → givenPair n f rest ≡ accepted → ((u v : ℕ) → u < 64 → v < 64 → f u v ≡ false) × (rest ≡ accepted)
+-- A search for a pair gives 0 exactly where no pair of numbers below 64 passes, and the rest gives 0 ..
+pub pair-out : (n : ℕ) (f : ℕ → ℕ → Bool) (rest : Said) → givenPair n f rest ≡ accepted
+    → ((u v : ℕ) → u < 64 → v < 64 → f u v ≡ false) × (rest ≡ accepted)
 unfolding givenPair
 pair-out n f rest e = let g = given-out (ltb (lowest (paired f)) 64) n (lowest (paired f)) _ rest e in (no-pair f (g .0), g .1)
 
-pub pair-in : (n : ℕ) (f : ℕ → ℕ → Bool) (rest : Said) → ((u v : ℕ) → u < 64 → v < 64 → f u v ≡ false) → rest ≡ accepted → givenPair n f rest ≡ accepted
+-- .. and back.
+pub pair-in : (n : ℕ) (f : ℕ → ℕ → Bool) (rest : Said) → ((u v : ℕ) → u < 64 → v < 64 → f u v ≡ false)
+    → rest ≡ accepted → givenPair n f rest ≡ accepted
 unfolding givenPair
 pair-in n f rest h e = given-in (ltb (lowest (paired f)) 64) _ rest (pair-none f h) e
 
--- The first of two answers that is not 0: 0 where both are.
+-- The first of two answers that is not 0: 0 where both are ..
 pub orElse-out : (s t : Said) → orElse s t ≡ accepted → (s ≡ accepted) × (t ≡ accepted)
 unfolding orElse
 orElse-out accepted t e = (refl, e)
 orElse-out (say n x y) t e = absurd (said-not-accepted e)
 
+-- .. and back.
 pub orElse-in : (s t : Said) → s ≡ accepted → t ≡ accepted → orElse s t ≡ accepted
 unfolding orElse
 orElse-in s t e f = ap (λ (x : Said). orElse x t) e ∙ f
@@ -61,7 +66,7 @@ pub record Fitting (d : Book) (row : Row) (a b c : ℕ) : Type 0 where
   pub second : fits d (row .b) b ≡ true
   pub third : fits d (row .c) c ≡ true
 
--- No argument is at fault exactly where all three fit.
+-- No argument is at fault exactly where all three fit ..
 pub fault-out : (d : Book) (row : Row) (a b c : ℕ) (rest : Said) → argumentFault d row a b c rest ≡ accepted → Fitting d row a b c × (rest ≡ accepted)
 unfolding argumentFault
 fault-out d row a b c rest e =
@@ -70,6 +75,7 @@ fault-out d row a b c rest e =
     let z = given-out (not (fits d (row .c) c)) 4 3 0 _ (y .1) in
     (record { first = not-false _ (x .0); second = not-false _ (y .0); third = not-false _ (z .0) }, z .1)
 
+-- .. and back.
 pub fault-in : (d : Book) (row : Row) (a b c : ℕ) (rest : Said) → Fitting d row a b c → rest ≡ accepted → argumentFault d row a b c rest ≡ accepted
 unfolding argumentFault
 fault-in d row a b c rest f e =
@@ -81,7 +87,7 @@ pub record Unrefused (d : Book) (q : Request) : Type 0 where
   pub fitting : Fitting d (rowOf (q .kind)) (q .a) (q .b) (q .c)
   pub state : stateRefusal d (rowOf (q .kind) .deed) (q .a) (q .b) (q .c) ≡ accepted
 
--- A request is not refused exactly where its kind is known, its arguments fit and the state of the book allows it.
+-- A request is not refused exactly where its kind is known, its arguments fit and the state of the book allows it ..
 pub refusal-out : (d : Book) (q : Request) → refusal d q ≡ accepted → Unrefused d q
 unfolding refusal
 refusal-out d q e =
@@ -89,18 +95,22 @@ refusal-out d q e =
     let y = fault-out d (rowOf (q .kind)) (q .a) (q .b) (q .c) _ (x .1) in
     record { known = x .0; fitting = y .0; state = y .1 }
 
+-- .. and back.
 pub refusal-in : (d : Book) (q : Request) → Unrefused d q → refusal d q ≡ accepted
 unfolding refusal
 refusal-in d q u = given-in _ _ _ (u .known) (fault-in d (rowOf (q .kind)) (q .a) (q .b) (q .c) _ (u .fitting) (u .state))
 
--- A request is accepted exactly where no word is bad, it is not refused and no conflict is given.
-pub judge-out : (d : Book) (q : Request) → judge d q ≡ accepted → (ltb (firstBad d) bookWords ≡ false) × (refusal d q ≡ accepted) × (conflict d q ≡ accepted)
+-- A request is accepted exactly where no word is bad, it is not refused and no conflict is given ..
+pub judge-out : (d : Book) (q : Request) → judge d q ≡ accepted
+    → (ltb (firstBad d) bookWords ≡ false) × (refusal d q ≡ accepted) × (conflict d q ≡ accepted)
 unfolding judge
 judge-out d q e =
     let x = given-out (ltb (firstBad d) bookWords) 2 (firstBad d) 0 _ e in
     let y = orElse-out (refusal d q) (conflict d q) (x .1) in
     (x .0, y .0, y .1)
 
-pub judge-in : (d : Book) (q : Request) → ltb (firstBad d) bookWords ≡ false → refusal d q ≡ accepted → conflict d q ≡ accepted → judge d q ≡ accepted
+-- .. and back.
+pub judge-in : (d : Book) (q : Request) → ltb (firstBad d) bookWords ≡ false → refusal d q ≡ accepted → conflict d q ≡ accepted
+    → judge d q ≡ accepted
 unfolding judge
 judge-in d q w r c = given-in (ltb (firstBad d) bookWords) _ _ w (orElse-in (refusal d q) (conflict d q) r c)

@@ -1,0 +1,3 @@
+pub mod Answers
+pub mod Findings
+pub mod Replies

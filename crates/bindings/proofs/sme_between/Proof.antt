@@ -1,0 +1,55 @@
+-- The pair that the search gives is the answer.
+use mathlib.Core.Path.{_≡_, sym, ap₂, _∙_}
+use Prim.Native.Nat.{ℕ}
+use Rattle.rules.specs.Book.{SME}
+use Rattle.rules.specs.Trade.{roleGroup}
+use Rattle.rules.specs.Numbers.{accepted, between, smeBetweenGroups, firstOf}
+use Rattle.book.specs.Slice.{tables}
+use Rattle.search.specs.Pairs.{foundPair}
+use Rattle.search.proofs.PairLaws.{given-pair, given-nothing}
+use borrow.Author.Needs.{needs}
+use Rattle.bindings.proofs.sme_between.Statement.{statement}
+use Rattle.bindings.proofs.sme_between.Tie as tie
+
+role-group-requires : tie.Need-role-group-requires
+role-group-requires c κs = search needs
+
+role-group-requires-2 : tie.Need-role-group-requires-2
+role-group-requires-2 c κs = search needs
+
+first-pair-requires : tie.Need-first-pair-requires
+first-pair-requires c κs = search needs
+
+enum-known-found : tie.Need-enum-known-found
+enum-known-found c = search needs
+
+enum-told : tie.Need-enum-told
+enum-told c = search needs
+
+returns : tie.Need-returns
+unfolding firstOf smeBetweenGroups
+returns c =
+    let s = c .before .before .before .before .before .before .before .args in
+    let d = tables (s .book .now) in
+    let pair = c .before .before .before .first-pair .ensures ∙ ap₂ (λ (xs ys : ℕ). foundPair (between (d .row SME) xs ys)) (c .before .before .before .before .before .role-group .ensures) (c .before .before .before .before .role-group2 .ensures) in
+    sym (given-pair (between (d .row SME) (roleGroup d (s .a)) (roleGroup d (s .b))) 27 accepted pair (c .before .found .given .1))
+
+returns-2 : tie.Need-returns-2
+unfolding firstOf smeBetweenGroups
+returns-2 c =
+    let s = c .before .before .before .before .before .before .args in
+    let d = tables (s .book .now) in
+    let pair = c .before .before .first-pair .ensures ∙ ap₂ (λ (xs ys : ℕ). foundPair (between (d .row SME) xs ys)) (c .before .before .before .before .role-group .ensures) (c .before .before .before .role-group2 .ensures) in
+    sym (given-nothing (between (d .row SME) (roleGroup d (s .a)) (roleGroup d (s .b))) 27 accepted pair (c .enum-told .given .1))
+
+pub sme-between-spec : {M : Type 1} → statement M
+sme-between-spec =
+    tie.close
+    (tie.spec
+    role-group-requires
+    role-group-requires-2
+    first-pair-requires
+    enum-known-found
+    enum-told
+    returns
+    returns-2)

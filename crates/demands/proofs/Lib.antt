@@ -1,0 +1,13 @@
+pub mod PairRules
+pub mod RowChanges
+pub mod Tables
+pub mod Owners
+pub mod Conflicts
+pub mod PairKinds
+pub mod StaffKinds
+pub mod Allocation
+pub mod PlainKinds
+pub mod TakenBack
+pub mod BlankBook
+pub mod EveryKind
+pub mod Demand3

@@ -1,0 +1,110 @@
+-- One row of a table changed: the steps that there are before and after. The changes are those of document 01's
+-- requests: a bit added to a row, both bits of a pair added, a bit taken back.
+use mathlib.Core.Path.{_≡_, refl, sym, ap, subst}
+use mathlib.Core.Logic.{_⊎_, inl, inr}
+use mathlib.Core.Bool.{Bool, true, false}
+use Prim.Native.Nat.{ℕ}
+use borrow.Author.Tests.{eq-eqb, ne-eqb}
+use Rattle.sets.specs.Mask.{with, without}
+use Rattle.sets.proofs.MaskLaws.{in-with, with-old, with-out, without-old}
+use Rattle.chains.specs.Relation.{Relation, In, Step}
+use Rattle.chains.proofs.RelationLaws.{Tied, old, there, back, Under, old-step, new-step}
+use Rattle.rules.specs.Requests.{setRow, addTo, addPair, takeFrom}
+use Rattle.rules.specs.Meaning.{Between, Pairs}
+use Rattle.rules.proofs.ChangeLaws.{set-cases}
+use Rattle.demands.proofs.PairRules.{Adds}
+
+-- Row r is now v.
+module _ (rows : ℕ → ℕ) (r v : ℕ) where
+  -- The row itself is v.
+  pub set-same : setRow rows r v r ≡ v
+  unfolding setRow
+  set-same = ap (λ (t : Bool). elim t as (λ (x : Bool). ℕ) [ true ↦ v | false ↦ rows r ]) (eq-eqb r r refl)
+
+  -- Another row is as it was.
+  pub set-other : (s : ℕ) → (s ≡ r → ⊥) → setRow rows r v s ≡ rows s
+  unfolding setRow
+  set-other s n = ap (λ (t : Bool). elim t as (λ (x : Bool). ℕ) [ true ↦ v | false ↦ rows s ]) (ne-eqb s r n)
+
+-- The relation X′ is X with a step from b to a.
+pub record Gets (b a : ℕ) (X X′ : Relation) : Type 0 where
+  pub out : (u v : ℕ) → X′ u v → Under X b a u v
+  pub into : (u v : ℕ) → Under X b a u v → X′ u v
+
+-- Number a is added to row b.
+module _ (rows : ℕ → ℕ) (b a : ℕ) where
+  -- The old steps stay.
+  pub add-old : (u v : ℕ) → Step rows u v → Step (addTo rows b a) u v
+  add-old = set-cases rows b (with (rows b) a) (λ s x. (v : ℕ) → Step rows s v → In x v) (with-old (rows b) a) (λ s n v e. e)
+
+  -- The step from b to a is there.
+  pub add-new : Step (addTo rows b a) b a
+  add-new = subst (λ (x : ℕ). In x a) (sym (set-same rows b (with (rows b) a))) (in-with (rows b) a)
+
+  -- The steps afterwards are the old ones and that from b to a.
+  pub add-gets : Gets b a (Step rows) (Step (addTo rows b a))
+  add-gets = record { out = out; into = into }
+    where
+      new : (v : ℕ) → In (rows b) v ⊎ (a ≡ v) → Under (Step rows) b a b v
+      new v (inl e) = old-step e
+      new v (inr e) = subst (λ (x : ℕ). Under (Step rows) b a b x) e new-step
+
+      out : (u v : ℕ) → Step (addTo rows b a) u v → Under (Step rows) b a u v
+      out = set-cases rows b (with (rows b) a) (λ s x. (v : ℕ) → In x v → Under (Step rows) b a s v) (λ v e. new v (with-out (rows b) a v e)) (λ s n v e. old-step e)
+
+      into : (u v : ℕ) → Under (Step rows) b a u v → Step (addTo rows b a) u v
+      into u v (old-step e) = add-old u v e
+      into u v new-step = add-new
+
+  -- A well-formed table stays so where b and a are defined.
+  pub add-between : (I J : ℕ) → Between I J rows → In I b → In J a → Between I J (addTo rows b a)
+  add-between I J formed db da u v e = go u v (add-gets .out u v e)
+    where
+      go : (u v : ℕ) → Under (Step rows) b a u v → In I u × In J v
+      go u v (old-step q) = formed u v q
+      go u v new-step = (db, da)
+
+-- Both bits of the pair a, b are added.
+module _ (rows : ℕ → ℕ) (a b : ℕ) where
+  -- The steps afterwards are the old ones and the two of the pair.
+  pub pair-adds : Adds a b (Step rows) (Step (addPair rows a b))
+  pair-adds = record { out = λ u v e. second u v (add-gets (addTo rows a b) b a .out u v e); into = into }
+    where
+      first : (u v : ℕ) → Under (Step rows) a b u v → Tied (Step rows) a b u v
+      first u v (old-step e) = old e
+      first u v new-step = there
+
+      second : (u v : ℕ) → Under (Step (addTo rows a b)) b a u v → Tied (Step rows) a b u v
+      second u v (old-step e) = first u v (add-gets rows a b .out u v e)
+      second u v new-step = back
+
+      into : (u v : ℕ) → Tied (Step rows) a b u v → Step (addPair rows a b) u v
+      into u v (old e) = add-old (addTo rows a b) b a u v (add-old rows a b u v e)
+      into u v there = add-old (addTo rows a b) b a a b (add-new rows a b)
+      into u v back = add-new (addTo rows a b) b a
+
+  -- A pair table stays one where a and b are two defined tasks ..
+  pub pair-table : (T : ℕ) → Pairs T rows → In T a → In T b → (a ≡ b → ⊥) → Pairs T (addPair rows a b)
+  pair-table T was da db two = record {
+    formed = add-between (addTo rows a b) b a T T (add-between rows a b T T (was .formed) da db) db da;
+    rule1 = λ t e. own t t refl (pair-adds .out t t e);
+    rule2 = λ u v e. pair-adds .into v u (turned u v (pair-adds .out u v e));
+  }
+    where
+      own : (u v : ℕ) → u ≡ v → Tied (Step rows) a b u v → ⊥
+      own u v q (old e) = was .rule1 u (subst (λ (x : ℕ). Step rows u x) (sym q) e)
+      own u v q there = two q
+      own u v q back = two (sym q)
+
+      turned : (u v : ℕ) → Tied (Step rows) a b u v → Tied (Step rows) a b v u
+      turned u v (old e) = old (was .rule2 u v e)
+      turned u v there = back
+      turned u v back = there
+
+  -- .. and a task beside itself breaks rule 1.
+  pub pair-two : (T : ℕ) → Pairs T (addPair rows a b) → a ≡ b → ⊥
+  pair-two T now q = now .rule1 a (subst (λ (x : ℕ). Step (addPair rows a b) a x) (sym q) (pair-adds .into a b there))
+
+-- Number a is taken from row b: no step is new.
+pub take-old : (rows : ℕ → ℕ) (b a u v : ℕ) → Step (takeFrom rows b a) u v → Step rows u v
+take-old rows b a = set-cases rows b (without (rows b) a) (λ s x. (v : ℕ) → In x v → Step rows s v) (without-old (rows b) a) (λ s n v e. e)

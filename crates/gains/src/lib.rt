@@ -1,0 +1,77 @@
+// What conflicts with an assignment: 29 and 30 of the hierarchy, 31 and 32 of what an owner would gain.
+// 31 and 32 share one search over owners.
+use answers::Answer;
+use owners::Owner;
+use search::Found;
+ghost use mathlib.Core.Path.{_≡_};
+ghost use mathlib.Core.List.{[], _∷_};
+ghost use Prim.Native.Nat.{_<_};
+ghost use lib.ListN.{length};
+ghost use Rattle.rules.specs.Book.{juniors, rolesOf};
+ghost use Rattle.rules.specs.Requests.{assign};
+ghost use Rattle.rules.specs.Numbers.{gained, taskAssignment, roleAssignment, conflicts, firstOf};
+ghost use Rattle.book.specs.Slice.{tables};
+ghost use Rattle.answers.specs.Answers.{said};
+
+// What is gained: task a where a role gets a task, else all tasks owned by role a.
+fn gain_of(book: &[u64], table: u64, a: u64) -> u64
+    requires { ⌜ (length (now book) ≡ 4676) × (a < 64) ⌝ }
+    ensures { λ r. ⌜ r ≡ gained (tables (now (book .entry))) table a ⌝ }
+{
+    if table == book::TASKS_OF {
+        sets::alone(a)
+    } else {
+        trade::owned_tasks(book, sets::alone(a))
+    }
+}
+
+// 32: among the subjects that own role b.
+fn subjects_conflict(book: &[u64], table: u64, a: u64, b: u64) -> Answer
+    requires { ⌜ (length (now book) ≡ 4676) × (a < 64) × (b < 64) ⌝ }
+    ensures { λ r. ⌜ said r ≡ firstOf (roleAssignment table ∷ []) (tables (now (book .entry))) a b 0 ⌝ }
+{
+    let found = owners::first_clash(book, Owner::Subject, b, gain_of(book, table, a));
+    match found {
+        Found::Pair(x, y) => Answer::RoleAssignment(x, y),
+        Found::Nothing => Answer::Accepted,
+    }
+}
+
+// Kinds 8 and 9: 31 among b and its seniors, then 32.
+pub fn owners_conflict(book: &[u64], table: u64, a: u64, b: u64) -> Answer
+    requires { ⌜ (length (now book) ≡ 4676) × (a < 64) × (b < 64) ⌝ }
+    ensures { λ r. ⌜ said r ≡ firstOf (taskAssignment table ∷ roleAssignment table ∷ []) (tables (now (book .entry))) a b 0 ⌝ }
+{
+    let found = owners::first_clash(book, Owner::Role, b, gain_of(book, table, a));
+    match found {
+        Found::Pair(x, y) => Answer::TaskAssignment(x, y),
+        Found::Nothing => subjects_conflict(book, table, a, b),
+    }
+}
+
+// Kind 9: 29, 30, then 31 and 32.
+pub fn junior_conflict(book: &[u64], a: u64, b: u64) -> Answer
+    requires { ⌜ (length (now book) ≡ 4676) × (a < 64) × (b < 64) ⌝ }
+    ensures { λ r. ⌜ said r ≡ firstOf (conflicts (assign juniors)) (tables (now (book .entry))) a b 0 ⌝ }
+{
+    if a == b {
+        return Answer::SelfInheritance;
+    }
+    if sets::has(trade::reach(book, a), b) {
+        return Answer::Cycle;
+    }
+    owners_conflict(book, book::JUNIORS, a, b)
+}
+
+// Kind 10: 32 of subject b itself.
+pub fn own_conflict(book: &[u64], a: u64, b: u64) -> Answer
+    requires { ⌜ (length (now book) ≡ 4676) × (a < 64) × (b < 64) ⌝ }
+    ensures { λ r. ⌜ said r ≡ firstOf (conflicts (assign rolesOf)) (tables (now (book .entry))) a b 0 ⌝ }
+{
+    let owned = trade::owned_tasks(book, book::row(book, book::ROLES_OF, b));
+    let y = owners::clash_of(book, owned, gain_of(book, book::ROLES_OF, a));
+    if y < 64 {
+        return Answer::RoleAssignment(b, y);
+    }
+    Answer::Accepted
+}

@@ -1,0 +1,45 @@
+-- The active word of a subject, 0 or the number of its active role plus 1: when the subject owns that role.
+use mathlib.Core.Path.{_≡_, sym, ap}
+use mathlib.Core.Bool.{Bool, true, false, _&&_, not}
+use Prim.Native.Nat.{ℕ, _-_, _^_, _≤_, _<_}
+use native.Mathlib.Omega.{arith}
+use lib.Dec.{eqb}
+use borrow.Author.Tests.{eqb-false, eq-eqb, ne-eqb, not-true}
+use Rattle.sets.specs.Mask.{bit}
+use Rattle.sets.proofs.Logic.{and-out, and-fails-l, and-fails-r}
+use Rattle.sets.proofs.MaskLaws.{bit-lt, bit-high}
+use Rattle.chains.proofs.ClosureLaws.{close-lt}
+use Rattle.rules.specs.Book.{Book, juniors, rolesOf, active}
+use Rattle.rules.specs.Trade.{below}
+use Rattle.rules.specs.Numbers.{activeOwned}
+use Rattle.rules.specs.Meaning.{Sized}
+
+module _ (d : Book) (c : ℕ) where
+  -- the roles that c owns
+  abbrev pub owned : ℕ
+  owned = below d (d .row rolesOf c)
+
+  -- With no active word there is no active role.
+  pub none-active : d .row active c ≡ 0 → activeOwned d c ≡ false
+  unfolding activeOwned
+  none-active e = and-fails-l _ (bit owned (d .row active c - 1)) (ap not (eq-eqb (d .row active c) 0 e))
+
+  -- A word above 64 names no role of a set of 64 bits.
+  pub no-such-role : owned < 2 ^ 64 → 64 < d .row active c → activeOwned d c ≡ false
+  unfolding activeOwned
+  no-such-role h l = and-fails-r (not (eqb (d .row active c) 0)) _ (bit-high 64 owned (d .row active c - 1) h (omega arith))
+
+  -- Any other word is looked up among the roles owned.
+  pub looked-up : (d .row active c ≡ 0 → ⊥) → bit owned (d .row active c - 1) ≡ activeOwned d c
+  unfolding activeOwned
+  looked-up n = sym (ap (λ (t : Bool). t && bit owned (d .row active c - 1)) (ap not (ne-eqb (d .row active c) 0 n)))
+
+  -- An active role that is owned, in a book of 64-bit words, has a number of 0 to 63.
+  pub active-bounds : Sized d → activeOwned d c ≡ true → (0 < d .row active c) × (d .row active c ≤ 64)
+  unfolding activeOwned below
+  active-bounds sized e =
+      let o = and-out (not (eqb (d .row active c) 0)) (bit owned (d .row active c - 1)) e in
+      let some : d .row active c ≡ 0 → ⊥ = eqb-false (d .row active c) 0 (not-true (eqb (d .row active c) 0) (o .0)) in
+      let few = close-lt (d .row juniors) (sized .rows juniors .fits) 64 (d .row rolesOf c) (sized .rows rolesOf .fits c) in
+      let role : d .row active c - 1 < 64 = bit-lt owned (d .row active c - 1) few (o .1) in
+      (omega arith, omega arith)

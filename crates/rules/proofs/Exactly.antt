@@ -1,0 +1,129 @@
+-- A test that holds exactly where a statement does, and how such tests are put together.
+-- The rules of the audit are tests made of `&&`, `not`, `all` and the like: what each stands for is read off by these laws.
+use mathlib.Core.Path.{_≡_, refl, sym, ap}
+use mathlib.Core.Logic.{_⊎_, inl, inr}
+use mathlib.Core.Bool.{Bool, true, false, _&&_, _||_, not, true≢false}
+use Prim.Native.Nat.{ℕ, zero, suc, _+_, _^_, _≤_, _<_}
+use native.Mathlib.Nat.{le-refl}
+use native.Mathlib.Omega.{arith}
+use lib.Dec.{ltb, eqb}
+use borrow.Author.Tests.{eqb-true, eq-eqb, ltb-true, ltb-false, not-false}
+use Rattle.sets.specs.Mask.{within, meet}
+use Rattle.sets.specs.Search.{lowestFrom, all}
+use Rattle.sets.proofs.Logic.{and-out, and-in, or-in-l, or-in-r, or-out, or-fails-out, or-fails, not-both, refute, not-in, not-out}
+use Rattle.sets.proofs.MaskLaws.{within-out, within-in, meet-in}
+use Rattle.sets.proofs.SearchLaws.{lowest-passes, lowest-first, all-out, all-in, meet-out}
+use Rattle.chains.specs.Relation.{In}
+use Rattle.rules.specs.Audit.{implies}
+
+-- The test holds exactly where the statement does.
+pub record Exactly (t : Bool) (P : Type 0) : Type 0 where
+  pub means : t ≡ true → P
+  pub holds : P → t ≡ true
+
+-- A test says that it holds.
+pub itself : (t : Bool) → Exactly t (t ≡ true)
+itself t = record { means = λ e. e; holds = λ e. e }
+
+-- The same said otherwise.
+pub exactly-as : {t : Bool} {P Q : Type 0} → (P → Q) → (Q → P) → Exactly t P → Exactly t Q
+exactly-as f g x = record { means = λ e. f (x .means e); holds = λ q. x .holds (g q) }
+
+-- Both of two tests.
+pub exactly-and : {s t : Bool} {P Q : Type 0} → Exactly s P → Exactly t Q → Exactly (s && t) (P × Q)
+exactly-and {s} {t} x y = record {
+  means = λ e. (let z = and-out s t e in (x .means (z .0), y .means (z .1)));
+  holds = λ z. and-in (x .holds (z .0)) (y .holds (z .1));
+}
+
+-- One of two tests.
+pub exactly-or : {s t : Bool} {P Q : Type 0} → Exactly s P → Exactly t Q → Exactly (s || t) (P ⊎ Q)
+exactly-or {s} {t} {P} {Q} x y = record { means = λ e. out (or-out s t e); holds = into }
+  where
+    out : (s ≡ true) ⊎ (t ≡ true) → P ⊎ Q
+    out (inl e) = inl (x .means e)
+    out (inr e) = inr (y .means e)
+
+    into : P ⊎ Q → (s || t) ≡ true
+    into (inl p) = or-in-l s t (x .holds p)
+    into (inr q) = or-in-r s t (y .holds q)
+
+-- A test that must fail.
+pub exactly-not : {t : Bool} {P : Type 0} → Exactly t P → Exactly (not t) (P → ⊥)
+exactly-not {t} x = record { means = λ e p. not-out t e (x .holds p); holds = λ f. not-in t (λ e. f (x .means e)) }
+
+-- A test that is asked only where another holds.
+pub exactly-implies : {s t : Bool} {P Q : Type 0} → Exactly s P → Exactly t Q → Exactly (implies s t) (P → Q)
+exactly-implies {s} {t} {P} {Q} x y = record { means = λ e p. y .means (out s (x .holds p) e); holds = λ f. into s refl f }
+  where
+    out : (b : Bool) → b ≡ true → implies b t ≡ true → t ≡ true
+    out true p e = e
+    out false p e = absurd (true≢false (sym p))
+
+    into : (b : Bool) → s ≡ b → (P → Q) → implies b t ≡ true
+    into true e f = y .holds (f (x .means e))
+    into false e f = refl
+
+-- Two numbers are equal.
+pub exactly-eqb : (x y : ℕ) → Exactly (eqb x y) (x ≡ y)
+exactly-eqb x y = record { means = eqb-true x y; holds = eq-eqb x y }
+
+-- A test for what is bad: it fails exactly where a statement holds.
+pub record Unless (t : Bool) (P : Type 0) : Type 0 where
+  pub means : t ≡ false → P
+  pub fails : P → t ≡ false
+
+-- The same said otherwise.
+pub unless-as : {t : Bool} {P Q : Type 0} → (P → Q) → (Q → P) → Unless t P → Unless t Q
+unless-as f g x = record { means = λ e. f (x .means e); fails = λ q. x .fails (g q) }
+
+-- It is bad where a test does not hold ..
+pub unless-not : {t : Bool} {P : Type 0} → Exactly t P → Unless (not t) P
+unless-not {t} x = record { means = λ e. x .means (not-false t e); fails = λ p. ap not (x .holds p) }
+
+-- .. where a test holds ..
+pub unless-holds : {t : Bool} {P : Type 0} → Exactly t P → Unless t (P → ⊥)
+unless-holds {t} x = record { means = λ e p. not-both t (x .holds p) e; fails = λ f. refute t (λ e. f (x .means e)) }
+
+-- .. where either of two is bad.
+pub unless-or : {s t : Bool} {P Q : Type 0} → Unless s P → Unless t Q → Unless (s || t) (P × Q)
+unless-or {s} {t} x y = record {
+  means = λ e. (let z = or-fails-out s t e in (x .means (z .0), y .means (z .1)));
+  fails = λ z. or-fails (x .fails (z .0)) (y .fails (z .1));
+}
+
+-- Every number below n.
+pub exactly-all : (n : ℕ) (f : ℕ → Bool) {P : ℕ → Type 0} → ((i : ℕ) → i < n → Exactly (f i) (P i)) → Exactly (all n f) ((i : ℕ) → i < n → P i)
+exactly-all n f x = record {
+  means = λ e i h. x i h .means (all-out n f e i h);
+  holds = λ g. all-in n f (λ i h. x i h .holds (g i h));
+}
+
+-- A search does not go below its start.
+pub lowest-from : (n i : ℕ) (f : ℕ → Bool) → i ≤ lowestFrom n i f
+unfolding lowestFrom
+lowest-from zero i f = le-refl i
+lowest-from (suc n) i f = go (f i) (lowest-from n (suc i) f)
+  where
+    go : (t : Bool) → suc i ≤ lowestFrom n (suc i) f → i ≤ elim t [ true ↦ i | false ↦ lowestFrom n (suc i) f ]
+    go true h = le-refl i
+    go false h = omega arith
+
+-- A search of n numbers from i on finds something unless each of them fails.
+pub unless-found : (n i : ℕ) (f : ℕ → Bool) → Unless (ltb (lowestFrom n i f) (i + n)) ((k : ℕ) → i ≤ k → k < i + n → f k ≡ false)
+unless-found n i f = record {
+  means = λ e k h l. (let z = ltb-false (lowestFrom n i f) (i + n) e in lowest-first n i f k h (omega arith));
+  fails = λ g. refute _ (λ e.
+      let z = ltb-true (lowestFrom n i f) (i + n) e in
+      not-both _ (lowest-passes n i f z) (g (lowestFrom n i f) (lowest-from n i f) z));
+}
+
+-- Of two sets of 64 bits:
+module _ (m n : ℕ) (hm : m < 2 ^ 64) (hn : n < 2 ^ 64) where
+  -- they have a common member;
+  pub exactly-meet : Exactly (meet m n) ((i : ℕ) × In m i × In n i)
+  exactly-meet = record { means = meet-out m n hm hn; holds = λ x. meet-in m n (x .0) (x .1) (x .2) }
+
+  -- the one lies within the other.
+  pub exactly-within : Exactly (within m n) ((j : ℕ) → In m j → In n j)
+  exactly-within = record { means = λ e j. within-out m n j e; holds = within-in m n hm hn }

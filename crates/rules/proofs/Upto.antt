@@ -1,0 +1,20 @@
+-- What holds of each number below n, said one by one: of the seventeen kinds, the nine tables, the ten rules.
+use mathlib.Core.Path.{_≡_, subst}
+use Prim.Native.Nat.{ℕ, zero, suc, _<_}
+use native.Mathlib.Omega.{arith}
+use native.Mathlib.Decide.{decLt}
+
+infixl 5 _next_
+-- P holds of 0, of 1, and so on up to n.
+pub data Upto (P : ℕ → Type 0) : ℕ → Type 0 where
+  start : Upto P zero
+  _next_ : {n : ℕ} → Upto P n → P n → Upto P (suc n)
+
+-- Then it holds of each number below n.
+pub upto-at : {P : ℕ → Type 0} {n : ℕ} → Upto P n → (k : ℕ) → k < n → P k
+upto-at start k h = absurd (omega arith)
+upto-at {P} (_next_ {n = n} u p) k h = go (upto-at u k) (decLt k n)
+  where
+    go : (k < n → P k) → Dec (k < n) → P k
+    go f (yes l) = f l
+    go f (no l) = let e : n ≡ k = omega arith in subst P e p

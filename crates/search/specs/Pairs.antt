@@ -1,0 +1,27 @@
+-- The pair that a test of two numbers has, as a search gives it.
+use mathlib.Core.Bool.{Bool, true, false}
+use Prim.Native.Nat.{ℕ}
+use lib.Dec.{ltb}
+use lib.Bits.{bitAnd}
+use Rattle.sets.specs.Mask.{bit, only}
+use Rattle.sets.specs.Search.{lowest, paired}
+use Rattle.rules.specs.Numbers.{Said, say}
+use Rattle.search.specs.declared.Found.{Found}
+use Rattle.search.specs.declared.Found.the-variants.{Pair, Nothing}
+
+-- x with its lowest partner, where x is a number of 0..63
+unfoldable pub pairOf : (ℕ → ℕ → Bool) → ℕ → Found
+pairOf f x = elim (ltb x 64) [ true ↦ Pair x (lowest (f x)) | false ↦ Nothing ]
+
+-- x the lowest that has a partner, then y its lowest partner
+unfoldable pub foundPair : (ℕ → ℕ → Bool) → Found
+foundPair f = pairOf f (lowest (paired f))
+
+-- number n with the pair as x and y, else what the rest gives
+abbrev pub sayPair : ℕ → Found → Said → Said
+sayPair n (Pair x y) rest = say n x y
+sayPair n Nothing rest = rest
+
+-- the partners of x in its row: those of ys, where x is one of xs
+abbrev pub partners : (ℕ → ℕ) → ℕ → ℕ → ℕ → ℕ
+partners rows xs ys x = only (bit xs x) (bitAnd (rows x) ys)

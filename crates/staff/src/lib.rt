@@ -1,0 +1,71 @@
+// Kinds 8, 9 and 10: a task for a role, a junior for a role, a role for a subject. Number a joins row b of a table.
+use answers::Answer;
+ghost use mathlib.Core.Path.{_≡_};
+ghost use Prim.Native.Nat.{_<_, _≤_};
+ghost use lib.ListN.{length};
+ghost use Rattle.rules.specs.Requests.{assign, assigned};
+ghost use Rattle.rules.specs.Numbers.{stateRefusal, conflicts, firstOf};
+ghost use Rattle.book.specs.Slice.{tables};
+ghost use Rattle.answers.specs.Answers.{said};
+ghost use Rattle.deeds.specs.Outcome.{decide, Settled};
+
+// 5 where it is assigned already.
+fn assign_refusal(book: &[u64], table: u64, a: u64, b: u64) -> Answer
+    requires { ⌜ (length (now book) ≡ 4676) × (table < 9) × (a < 64) × (b < 64) ⌝ }
+    ensures { λ r. ⌜ said r ≡ stateRefusal (tables (now (book .entry))) (assign table) a b 0 ⌝ }
+{
+    if sets::has(book::row(book, table, b), a) {
+        return Answer::AlreadySet;
+    }
+    Answer::Accepted
+}
+
+// What conflicts, by the table: juniors, tasks of roles, roles of subjects.
+fn assign_conflict(book: &[u64], table: u64, a: u64, b: u64) -> Answer
+    requires { ⌜ (length (now book) ≡ 4676) × (4 ≤ table) × (table < 7) × (a < 64) × (b < 64) ⌝ }
+    ensures { λ r. ⌜ said r ≡ firstOf (conflicts (assign table)) (tables (now (book .entry))) a b 0 ⌝ }
+{
+    match table {
+        4 => gains::junior_conflict(book, a, b),
+        5 => gains::owners_conflict(book, table, a, b),
+        _ => gains::own_conflict(book, a, b),
+    }
+}
+
+// The answer, on the book as it stands.
+fn judge_assignment(book: &[u64], table: u64, a: u64, b: u64) -> Answer
+    requires { ⌜ (length (now book) ≡ 4676) × (4 ≤ table) × (table < 7) × (a < 64) × (b < 64) ⌝ }
+    ensures { λ r. ⌜ said r ≡ decide (tables (now (book .entry))) (assign table) a b 0 ⌝ }
+{
+    let refusal = assign_refusal(book, table, a, b);
+    if !answers::is_accepted(refusal) {
+        return refusal;
+    }
+    assign_conflict(book, table, a, b)
+}
+
+// The assignment itself; a subject with no active role gets this one as its active role.
+fn store_assignment(book: &mut [u64], table: u64, a: u64, b: u64)
+    requires { ⌜ (length (now book) ≡ 4676) × (table < 9) × (a < 64) × (b < 64) ⌝ }
+    ensures { λ _. ⌜ (length (now (book .exit)) ≡ 4676) × (tables (now (book .exit)) ≡ assigned table (tables (now (book .entry))) a b) ⌝ }
+{
+    let active = book::row(book, book::ACTIVE, b);
+    book::add_to_row(book, table, b, a);
+    if table == book::ROLES_OF {
+        if active == 0 {
+            book::set_row(book, book::ACTIVE, b, a + 1);
+        }
+    }
+}
+
+// Kinds 8 to 10: number a joins row b of the table, where nothing stands in the way.
+pub fn assign(book: &mut [u64], table: u64, a: u64, b: u64) -> Answer
+    requires { ⌜ (length (now book) ≡ 4676) × (4 ≤ table) × (table < 7) × (a < 64) × (b < 64) ⌝ }
+    ensures { λ r. ⌜ Settled (now (book .entry)) (now (book .exit)) (assign table) a b 0 r ⌝ }
+{
+    let answer = judge_assignment(book, table, a, b);
+    if answers::is_accepted(answer) {
+        store_assignment(book, table, a, b);
+    }
+    answer
+}

@@ -1,0 +1,299 @@
+//! The maker of cases: each round holds some of everything, so that a short stream has it all too.
+
+use super::asks::{extreme, likely, spoiled, strange_kind, Ask, Floor};
+use super::books::{full, longest, small};
+use super::broken::break_rule;
+use super::chance::Chance;
+use super::crowds::{crowded_gain, crowded_job, crowded_pair};
+use super::damage::{damage, WAYS};
+use super::scene::Scene;
+use super::sheet::Sheet;
+use super::situations::{lay, AIMS};
+use crate::book::{Book, WORDS};
+
+/// Kinds for the time in which a cell of machines is set up, and for the time in which orders run.
+const SETTING_UP: &[u64] = &[1, 2, 3, 4, 4, 5, 5, 6, 6, 7, 7, 8, 8, 8, 8, 9, 9, 10, 10, 10, 11, 15, 16, 17];
+const RUNNING: &[u64] = &[4, 5, 6, 7, 8, 9, 10, 10, 11, 11, 12, 12, 13, 13, 13, 13, 13, 13, 13, 13, 14, 15, 16, 17];
+
+/// How many sound books are kept for later rounds.
+const KEPT: usize = 12;
+
+/// Makes cases, round by round.
+pub struct Maker {
+    chance: Chance,
+    sheet: Sheet,
+    /// Books reached from the blank one.
+    sound: Vec<Book>,
+    rounds: usize,
+}
+
+impl Maker {
+    pub fn new(seed: u64) -> Maker {
+        Maker { chance: Chance::new(seed), sheet: Sheet::new(), sound: Vec::new(), rounds: 0 }
+    }
+
+    /// How many requests have been written.
+    pub fn requests(&self) -> u64 {
+        self.sheet.requests
+    }
+
+    /// The text written since the last time.
+    pub fn take_text(&mut self) -> String {
+        std::mem::take(&mut self.sheet.text)
+    }
+
+    /// One round: some cases of every sort.
+    pub fn round(&mut self) {
+        self.run_from_blank();
+        for _ in 0..3 {
+            let book = small(&mut self.chance);
+            self.hand_made(book, 25);
+        }
+        AIMS.iter().for_each(|&(kind, number)| self.aimed(kind, number));
+        (0..5).for_each(|_| self.crowded(crowded_pair));
+        (0..2).for_each(|_| self.crowded(crowded_gain));
+        (0..2).for_each(|_| self.crowded(crowded_job));
+        (1..=10).for_each(|rule| self.broken(rule));
+        for step in 0..4 {
+            self.damaged((4 * self.rounds + step) % WAYS);
+        }
+        self.wrong_length();
+        self.extremes();
+        let book = full(&mut self.chance);
+        self.hand_made(book, 40);
+        self.longest_chains();
+        self.rounds += 1;
+    }
+
+    /// A run of requests from the blank book: setting up, then orders, and again.
+    fn run_from_blank(&mut self) {
+        self.sheet.lay(vec![0; WORDS]);
+        let (fewest, most) = if self.rounds % 8 == 3 { (64, 64) } else { (3, 10) };
+        let floor = Floor::new(&mut self.chance, fewest, most);
+        for (kind, numbers) in [(1, &floor.tasks), (2, &floor.roles), (3, &floor.subjects)] {
+            for &number in numbers.iter() {
+                self.sheet.ask((kind, number as u64, 0, 0));
+            }
+        }
+        for kinds in [SETTING_UP, RUNNING, SETTING_UP, RUNNING] {
+            for _ in 0..self.chance.between(20, 60) {
+                let kind = self.chance.pick(kinds);
+                self.ask_likely(&floor, kind);
+            }
+            self.keep();
+            if kinds == RUNNING && self.chance.percent(80) {
+                self.close_all();
+            }
+        }
+        self.sheet.audit();
+    }
+
+    /// Keeps the book as it stands among the sound ones, in the place of an older one if need be.
+    fn keep(&mut self) {
+        let book = self.sheet.book();
+        if self.sound.len() < KEPT {
+            self.sound.push(book);
+        } else {
+            let place = self.chance.below(KEPT);
+            self.sound[place] = book;
+        }
+    }
+
+    fn close_all(&mut self) {
+        let book = self.sheet.book();
+        for order in (0..64).filter(|&p| book.is_open(p)) {
+            self.sheet.ask((14, order as u64, 0, 0));
+        }
+    }
+
+    /// One likely request, now and then spoiled, and an audit after every few.
+    fn ask_likely(&mut self, floor: &Floor, kind: u64) {
+        let book = self.sheet.book();
+        // Where no order is open there is little to allocate or to close, so one is opened first.
+        let idle = matches!(kind, 13 | 14) && (0..64).all(|p| !book.is_open(p));
+        let kind = if idle && self.chance.percent(80) { 12 } else { kind };
+        let mut ask = likely(&mut self.chance, floor, &book, kind);
+        if self.chance.percent(4) {
+            ask = spoiled(&mut self.chance, ask);
+        }
+        self.sheet.ask(ask);
+        if self.chance.percent(20) {
+            self.sheet.audit();
+        }
+    }
+
+    /// A hand-made book: its audit, then requests of all kinds.
+    fn hand_made(&mut self, book: Book, requests: usize) {
+        let floor = Floor::of(&mut self.chance, &book);
+        self.sheet.lay(book.words());
+        self.sheet.audit();
+        for _ in 0..requests {
+            let kind = self.chance.between(4, 17) as u64;
+            self.ask_likely(&floor, kind);
+        }
+    }
+
+    /// A book to lay something into: blank, sound, or a small one that need not be sound.
+    fn ground(&mut self, sound: bool) -> Book {
+        match self.chance.below(if sound { 3 } else { 4 }) {
+            0 => Book::blank(),
+            1 | 2 if !self.sound.is_empty() => self.sound[self.chance.below(self.sound.len())].clone(),
+            3 => small(&mut self.chance),
+            _ => Book::blank(),
+        }
+    }
+
+    /// An aimed situation on some ground; then the same request turned round, and once more.
+    fn aimed(&mut self, kind: u64, number: u64) {
+        let mut ground = self.ground(false);
+        if (4..=7).contains(&kind) && self.chance.percent(90) {
+            without_orders(&mut ground);
+        }
+        let one_way = self.chance.percent(25);
+        let mut scene = Scene::over(&mut self.chance, ground, one_way);
+        let ask = lay(&mut scene, kind, number);
+        let book = scene.book;
+        self.sheet.lay(book.words());
+        self.sheet.audit();
+        let (kind, a, b, c) = ask;
+        if self.chance.percent(25) {
+            self.sheet.ask((kind, b, a, c));
+        }
+        self.sheet.ask(ask);
+        self.sheet.audit();
+        let floor = Floor::of(&mut self.chance, &book);
+        self.ask_likely(&floor, kind);
+    }
+
+    /// Several troubles at once, and the requests that meet them.
+    fn crowded(&mut self, crowd: fn(&mut Scene) -> Vec<Ask>) {
+        let mut ground = self.ground(false);
+        if self.chance.percent(90) {
+            without_orders(&mut ground);
+        }
+        let one_way = self.chance.percent(40);
+        let mut scene = Scene::over(&mut self.chance, ground, one_way);
+        let asks = crowd(&mut scene);
+        let words = scene.book.words();
+        self.sheet.lay(words);
+        self.sheet.audit();
+        for ask in asks {
+            self.sheet.ask(ask);
+        }
+        self.sheet.audit();
+    }
+
+    /// A sound book with one rule broken, sometimes a second one; then a few requests.
+    fn broken(&mut self, rule: u64) {
+        let ground = self.ground(true);
+        let mut scene = Scene::over(&mut self.chance, ground, false);
+        break_rule(&mut scene, rule);
+        if scene.chance.percent(20) {
+            let second = scene.chance.between(1, 10) as u64;
+            break_rule(&mut scene, second);
+        }
+        let book = scene.book;
+        self.hand_made(book, 3);
+    }
+
+    /// A book with one or two bad words: its audit, and requests of many kinds.
+    fn damaged(&mut self, way: usize) {
+        // A job on the ground sees to it that there are cells to damage.
+        let ground = self.ground(false);
+        let mut scene = Scene::over(&mut self.chance, ground, false);
+        lay(&mut scene, 13, 0);
+        let mut words = scene.book.words();
+        damage(&mut self.chance, &mut words, way);
+        if self.chance.percent(20) {
+            let second = self.chance.below(WAYS);
+            damage(&mut self.chance, &mut words, second);
+        }
+        self.sheet.lay(words);
+        self.sheet.audit();
+        for kind in 0..=17 {
+            if self.chance.percent(50) {
+                self.ask_blindly(kind);
+            }
+        }
+    }
+
+    /// A request with any arguments at all; kind 0 stands for the kinds outside 1 to 17.
+    fn ask_blindly(&mut self, kind: u64) {
+        let kind = if kind == 0 { strange_kind(&mut self.chance) } else { kind };
+        let small = |chance: &mut Chance| if chance.percent(60) { chance.below(64) as u64 } else { extreme(chance) };
+        let (a, b, c) = (small(&mut self.chance), small(&mut self.chance), small(&mut self.chance));
+        self.sheet.ask((kind, a, b, c));
+    }
+
+    /// Too few or too many words, of a book that is good or bad or has nothing in it.
+    fn wrong_length(&mut self) {
+        let length = self.chance.pick(&[0, 1, 3, 4, 580, 4675, 4675, 4677, 4677, 4700]);
+        let mut words = self.ground(false).words();
+        words.resize(length, 0);
+        if length > 0 && self.chance.percent(40) {
+            let index = self.chance.below(length);
+            words[index] = self.chance.word();
+        }
+        self.sheet.lay(words);
+        self.sheet.audit();
+        (0..=17).for_each(|kind| self.ask_blindly(kind));
+    }
+
+    /// Every kind with extreme arguments, on a book where the others mostly fit.
+    fn extremes(&mut self) {
+        let book = self.ground(false);
+        let floor = Floor::of(&mut self.chance, &book);
+        self.sheet.lay(book.words());
+        self.sheet.audit();
+        for kind in 1..=17 {
+            let ask = likely(&mut self.chance, &floor, &self.sheet.book(), kind);
+            let ask = spoiled(&mut self.chance, ask);
+            self.sheet.ask(ask);
+            if self.chance.percent(30) {
+                let ask = spoiled(&mut self.chance, ask);
+                self.sheet.ask(ask);
+            }
+        }
+        (0..3).for_each(|_| self.ask_blindly(0));
+    }
+
+    /// Chains of 64: what holds at their two ends, then requests of all kinds.
+    fn longest_chains(&mut self) {
+        let (book, roles, tasks) = longest(&mut self.chance);
+        let (top, bottom) = (roles[0] as u64, roles[63] as u64);
+        let (first, last) = (tasks[0] as u64, tasks[63] as u64);
+        let subject = (0..64).find(|&s| book.active[s].is_some()).unwrap_or(0) as u64;
+        self.sheet.lay(book.words());
+        self.sheet.audit();
+        let order = (0..64).find(|&p| book.is_open(p)).unwrap_or(0) as u64;
+        let mut asks = vec![(9, top, bottom, 0), (9, bottom, top, 0), (11, bottom, subject, 0), (11, top, subject, 0)];
+        for kind in 4..=7 {
+            asks.extend([(kind, first, last, 0), (kind, last, first, 0)]);
+        }
+        asks.extend([(12, order, 0, u64::MAX), (13, first, order, subject), (13, last, order, subject)]);
+        for ask in asks {
+            self.sheet.ask(ask);
+        }
+        self.sheet.audit();
+        let floor = Floor::of(&mut self.chance, &book);
+        for _ in 0..20 {
+            let kind = self.chance.between(4, 17) as u64;
+            self.ask_likely(&floor, kind);
+        }
+    }
+}
+
+/// Closes all orders, so that the pair tables may be changed.
+fn without_orders(book: &mut Book) {
+    let blank = Book::blank();
+    book.orders = blank.orders;
+    book.cells = blank.cells;
+}
+
+/// An aimed situation alone on the blank book: its words and the request that is to give the number.
+pub fn aimed_case(seed: u64, kind: u64, number: u64) -> (Vec<u64>, Ask) {
+    let mut chance = Chance::new(seed);
+    let mut scene = Scene::over(&mut chance, Book::blank(), false);
+    let ask = lay(&mut scene, kind, number);
+    (scene.book.words(), ask)
+}

@@ -1,0 +1,28 @@
+//! Cases to compare by: runs from the blank book, hand-made books, aimed situations, damage, extremes.
+
+use std::io::{Result, Write};
+
+mod asks;
+mod books;
+mod broken;
+mod chance;
+mod crowds;
+mod damage;
+mod maker;
+mod scene;
+mod sheet;
+mod situations;
+
+pub use asks::Ask;
+pub use maker::{aimed_case, Maker};
+pub use situations::AIMS;
+
+/// Writes cases with at least so many requests, and audits besides. The same seed gives the same cases.
+pub fn cases(seed: u64, count: u64, output: &mut impl Write) -> Result<()> {
+    let mut maker = Maker::new(seed);
+    while maker.requests() < count {
+        maker.round();
+        output.write_all(maker.take_text().as_bytes())?;
+    }
+    Ok(())
+}

@@ -1,0 +1,21 @@
+//! The witness: document 01 read literally, so that its answers can be held beside those of the duty book.
+//!
+//! `set`, `book` and `trade` say what the words mean, `request` and `audit` are the rules,
+//! `stream` and `count` read and answer cases as text, and `cases` makes them.
+
+#![forbid(unsafe_code)]
+
+pub mod audit;
+pub mod book;
+pub mod cases;
+pub mod count;
+pub mod request;
+pub mod set;
+pub mod stream;
+pub mod trade;
+
+/// An answer: the number, then x and y, which are 0 where nothing is said.
+pub type Answer = (u64, u64, u64);
+
+/// The answer to an accepted request, and of an audit that finds nothing.
+pub const ACCEPTED: Answer = (0, 0, 0);

@@ -1,0 +1,262 @@
+//! "Requests" and "The numbers that come back": refusals 1 to 11, the conflicts, and the change.
+
+use crate::book::{lowest_bad_word, Book, Cell, Table, EMPTY_CELL, WORDS};
+use crate::set::Set;
+use crate::trade::{
+    reached, role_group, roles_owned_by_subject, subject_group, tasks_owned_by_role, tasks_owned_by_subject,
+};
+use crate::{Answer, ACCEPTED};
+
+/// A request to a book: its answer, and the book changed where the answer is 0 and untouched elsewhere.
+pub fn request(words: &mut [u64], kind: u64, a: u64, b: u64, c: u64) -> Answer {
+    if let Some(answer) = refusal(words, kind, a, b, c) {
+        return answer;
+    }
+    let book = Book::read(words);
+    if let Some(answer) = conflict(&book, kind, a, b, c) {
+        return answer;
+    }
+    words.copy_from_slice(&change(&book, kind, a, b, c).words());
+    ACCEPTED
+}
+
+/// The blind change: what the request would do if nobody looked for conflicts.
+/// It is defined only where none of the refusals 1 to 11 applies.
+pub fn blind(words: &[u64], kind: u64, a: u64, b: u64, c: u64) -> Vec<u64> {
+    change(&Book::read(words), kind, a, b, c).words()
+}
+
+/// The lowest applicable number of 1 to 11, if there is one.
+pub fn refusal(words: &[u64], kind: u64, a: u64, b: u64, c: u64) -> Option<Answer> {
+    if words.len() != WORDS {
+        return Some((1, 0, 0));
+    }
+    if let Some(index) = lowest_bad_word(words) {
+        return Some((2, index as u64, 0));
+    }
+    if !(1..=17).contains(&kind) {
+        return Some((3, 0, 0));
+    }
+    let book = Book::read(words);
+    if let Some(place) = argument_at_fault(&book, kind, a, b, c) {
+        return Some((4, place, 0));
+    }
+    // From here on every argument in use is a number 0 to 63, but for the mask of kind 12.
+    let (a, b, c) = (a as usize, b as usize, c as usize);
+    if already_set(&book, kind, a, b) {
+        return Some((5, 0, 0));
+    }
+    if not_there(&book, kind, a, b) {
+        return Some((6, 0, 0));
+    }
+    match kind {
+        4..=7 => (0..64).find(|&p| book.is_open(p)).map(|p| (7, p as u64, 0)),
+        11 if !roles_owned_by_subject(&book, b).has(a) => Some((8, 0, 0)),
+        13 => allocation_refusal(&book, a, b, c),
+        _ => None,
+    }
+}
+
+/// Number 4: the place (1, 2 or 3) of the first argument that is not what its kind asks for.
+fn argument_at_fault(book: &Book, kind: u64, a: u64, b: u64, c: u64) -> Option<u64> {
+    let no_task = |n: u64| n > 63 || !book.tasks.has(n as usize);
+    let no_role = |n: u64| n > 63 || !book.roles.has(n as usize);
+    let no_subject = |n: u64| n > 63 || !book.subjects.has(n as usize);
+    let no_open_order = |n: u64| n > 63 || !book.is_open(n as usize);
+    let no_task_mask = |mask: u64| mask == 0 || Set::from_mask(mask).members().any(|t| !book.tasks.has(t));
+    let at_fault = match kind {
+        1..=3 => [a > 63, false, false],
+        4..=7 => [no_task(a), no_task(b), false],
+        8 | 15 => [no_task(a), no_role(b), false],
+        9 | 16 => [no_role(a), no_role(b), false],
+        10 | 11 | 17 => [no_role(a), no_subject(b), false],
+        12 => [a > 63, false, no_task_mask(c)],
+        13 => [no_task(a), no_open_order(b), no_subject(c)],
+        14 => [no_open_order(a), false, false],
+        _ => unreachable!("number 3 comes before number 4"),
+    };
+    match (1..=3).find(|place| at_fault[place - 1]) {
+        Some(place) => Some(place as u64),
+        // "then, kind 13, a not in order b": asked only after all three arguments fit.
+        None if kind == 13 && !book.orders[b as usize].has(a as usize) => Some(1),
+        None => None,
+    }
+}
+
+/// Number 5: the very bit, or the open order, that the request would set is there.
+fn already_set(book: &Book, kind: u64, a: usize, b: usize) -> bool {
+    match kind {
+        1 => book.tasks.has(a),
+        2 => book.roles.has(a),
+        3 => book.subjects.has(a),
+        4 => book.sme[a].has(b),
+        5 => book.dme[a].has(b),
+        6 => book.rb[a].has(b),
+        7 => book.sb[a].has(b),
+        8 => book.tasks_of_role[b].has(a),
+        9 => book.juniors[b].has(a),
+        10 => book.roles_of_subject[b].has(a),
+        12 => book.is_open(a),
+        _ => false,
+    }
+}
+
+/// Number 6: the very bit that the request would take back is not there.
+fn not_there(book: &Book, kind: u64, a: usize, b: usize) -> bool {
+    match kind {
+        15 => !book.tasks_of_role[b].has(a),
+        16 => !book.juniors[b].has(a),
+        17 => !book.roles_of_subject[b].has(a),
+        _ => false,
+    }
+}
+
+/// Numbers 8 to 11 for kind 13: task a in order b to subject c.
+fn allocation_refusal(book: &Book, a: usize, b: usize, c: usize) -> Option<Answer> {
+    let role = match book.active[c] {
+        Some(role) if roles_owned_by_subject(book, c).has(role) => role,
+        _ => return Some((8, 0, 0)),
+    };
+    let cell = book.cells[b][a];
+    if let Some(subject) = cell.subject {
+        return Some((9, subject as u64, 0));
+    }
+    if let Some(other) = cell.role.filter(|&other| other != role) {
+        return Some((10, other as u64, 0));
+    }
+    let owned = tasks_owned_by_role(book, role);
+    let needed = role_group(book, a).and(&book.orders[b]);
+    let lacking = needed.members().find(|&t| !owned.has(t));
+    lacking.map(|t| (11, t as u64, 0))
+}
+
+/// "Conflicts by kind": the first of the kind's list that is met, where no refusal applies.
+fn conflict(book: &Book, kind: u64, a: u64, b: u64, c: u64) -> Option<Answer> {
+    let (a, b, c) = (a as usize, b as usize, c as usize);
+    let list: &[u64] = match kind {
+        4 => &[20, 21, 23, 24, 25, 26],
+        5 => &[20, 22, 23],
+        6 => &[20, 22, 27],
+        7 => &[20, 21, 22, 27, 28],
+        8 => &[31, 32],
+        9 => &[29, 30, 31, 32],
+        10 => &[32],
+        13 => &[33, 34],
+        _ => &[],
+    };
+    list.iter().find_map(|&number| {
+        let told = match number {
+            31 | 32 => gaining_conflict(book, number, kind, a, b),
+            33 | 34 => holding_conflict(book, number, a, b, c),
+            _ => pair_conflict(book, number, a, b),
+        };
+        told.map(|(x, y)| (number, x as u64, y as u64))
+    })
+}
+
+/// Conflicts 20 to 30 of the pair a, b: x and y where the conflict is met.
+fn pair_conflict(book: &Book, number: u64, a: usize, b: usize) -> Option<(usize, usize)> {
+    let said_of_no_one = |met: bool| met.then_some((0, 0));
+    let owns_both = |owned: Set| owned.has(a) && owned.has(b);
+    match number {
+        20 | 29 => said_of_no_one(a == b),
+        21 => said_of_no_one(book.dme[a].has(b)),
+        22 => said_of_no_one(book.sme[a].has(b)),
+        23 => said_of_no_one(subject_group(book, a).has(b)),
+        24 => said_of_no_one(role_group(book, a).has(b)),
+        25 => (0..64).find(|&r| owns_both(tasks_owned_by_role(book, r))).map(|r| (r, 0)),
+        26 => (0..64).find(|&s| owns_both(tasks_owned_by_subject(book, s))).map(|s| (s, 0)),
+        27 => lowest_pair(&role_group(book, a), &book.sme, &role_group(book, b)),
+        28 => lowest_pair(&subject_group(book, a), &book.dme, &subject_group(book, b)),
+        30 => said_of_no_one(reached(book, a).has(b)),
+        _ => unreachable!("no other number is a conflict of a pair"),
+    }
+}
+
+/// "x the lowest that has a partner, then y its lowest partner": y in x's row.
+fn lowest_pair(xs: &Set, table: &Table, ys: &Set) -> Option<(usize, usize)> {
+    xs.members().find_map(|x| table[x].and(ys).members().next().map(|y| (x, y)))
+}
+
+/// Conflicts 31 and 32: x the lowest role or subject that owns a task SME to one it would gain,
+/// y its lowest such task. Owned is what it owns before the change; a gained task may be among that.
+fn gaining_conflict(book: &Book, number: u64, kind: u64, a: usize, b: usize) -> Option<(usize, usize)> {
+    let gained = match kind {
+        8 => Set::of(&[a]),
+        _ => tasks_owned_by_role(book, a),
+    };
+    let would_gain = |x: usize| match (number, kind) {
+        (31, _) => x == b || reached(book, x).has(b),
+        (_, 10) => x == b,
+        _ => roles_owned_by_subject(book, x).has(b),
+    };
+    let owned_by = |x: usize| match number {
+        31 => tasks_owned_by_role(book, x),
+        _ => tasks_owned_by_subject(book, x),
+    };
+    (0..64).filter(|&x| would_gain(x)).find_map(|x| {
+        let is_sme_to_gained = |&u: &usize| !book.sme[u].and(&gained).is_empty();
+        owned_by(x).members().find(is_sme_to_gained).map(|y| (x, y))
+    })
+}
+
+/// Conflicts 33 and 34: c already holds x in order b, with y of a's subject group, in the order, in x's row.
+fn holding_conflict(book: &Book, number: u64, a: usize, b: usize, c: usize) -> Option<(usize, usize)> {
+    let mut held = Set::empty();
+    for t in book.orders[b].members().filter(|&t| book.cells[b][t].subject == Some(c)) {
+        held.put(t);
+    }
+    let table = if number == 33 { &book.sme } else { &book.dme };
+    lowest_pair(&held, table, &subject_group(book, a).and(&book.orders[b]))
+}
+
+/// The change of each kind, made from the book before it.
+fn change(before: &Book, kind: u64, a: u64, b: u64, c: u64) -> Book {
+    let mut book = before.clone();
+    let (a, b) = (a as usize, b as usize);
+    match kind {
+        1 => book.tasks.put(a),
+        2 => book.roles.put(a),
+        3 => book.subjects.put(a),
+        4 => put_both(&mut book.sme, a, b),
+        5 => put_both(&mut book.dme, a, b),
+        6 => put_both(&mut book.rb, a, b),
+        7 => put_both(&mut book.sb, a, b),
+        8 => book.tasks_of_role[b].put(a),
+        9 => book.juniors[b].put(a),
+        10 => {
+            book.roles_of_subject[b].put(a);
+            book.active[b] = before.active[b].or(Some(a));
+        }
+        11 => book.active[b] = Some(a),
+        12 => {
+            book.orders[a] = Set::from_mask(c);
+            book.cells[a] = vec![EMPTY_CELL; 64];
+        }
+        13 => allocate(before, &mut book, a, b, c as usize),
+        14 => {
+            book.orders[a] = Set::empty();
+            book.cells[a] = vec![EMPTY_CELL; 64];
+        }
+        15 => book.tasks_of_role[b].take(a),
+        16 => book.juniors[b].take(a),
+        17 => book.roles_of_subject[b].take(a),
+        _ => unreachable!("number 3 comes before any change"),
+    }
+    book
+}
+
+fn put_both(table: &mut Table, a: usize, b: usize) {
+    table[a].put(b);
+    table[b].put(a);
+}
+
+/// Kind 13: in order b each task of a's role group gets the active role of c, and each task of a's
+/// subject group also gets c. A cell of the role group outside the subject group keeps its subject.
+fn allocate(before: &Book, book: &mut Book, a: usize, b: usize, c: usize) {
+    let by_subject = subject_group(before, a);
+    for t in role_group(before, a).and(&before.orders[b]).members() {
+        let subject = if by_subject.has(t) { Some(c) } else { before.cells[b][t].subject };
+        book.cells[b][t] = Cell { role: before.active[c], subject };
+    }
+}

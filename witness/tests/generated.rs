@@ -1,0 +1,161 @@
+//! What has to hold of every generated case, and of the generator itself.
+
+mod common;
+
+use std::io::Cursor;
+
+use witness::audit::{audit, rule_holds};
+use witness::book::{lowest_bad_word, Book, WORDS};
+use witness::cases::{aimed_case, cases, AIMS};
+use witness::count::Tally;
+use witness::request::{blind, refusal, request};
+use witness::stream::{answers, each_command, Command, Desk};
+
+fn text_of_cases(seed: u64, count: u64) -> Vec<u8> {
+    let mut text = Vec::new();
+    cases(seed, count, &mut text).expect("a vector takes all");
+    text
+}
+
+/// Demand 3: on a book that passes the audit, where none of 1 to 11 applies, a request is accepted
+/// just where the blind change passes the audit, and then the blind book is the one kept.
+#[test]
+fn accepted_just_where_the_blind_change_is_sound() {
+    let (mut accepted, mut refused) = (0, 0);
+    walk(text_of_cases(2, 8_000), |words, kind, a, b, c| {
+        if audit(words).0 != 0 || refusal(words, kind, a, b, c).is_some() {
+            return;
+        }
+        let mut kept = words.to_vec();
+        let answer = request(&mut kept, kind, a, b, c);
+        let changed = blind(words, kind, a, b, c);
+        assert_eq!(answer.0 == 0, audit(&changed).0 == 0, "kind {kind} with {a}, {b}, {c} answered {answer:?}");
+        if answer.0 == 0 {
+            assert!(kept == changed);
+            accepted += 1;
+        } else {
+            refused += 1;
+        }
+    });
+    assert!(accepted > 1000 && refused > 200, "{accepted} accepted and {refused} refused show too little");
+}
+
+/// Hands on the book and the arguments of each request in a stream, before it is answered.
+fn walk(text: Vec<u8>, mut see: impl FnMut(&[u64], u64, u64, u64, u64)) {
+    let mut desk = Desk::new();
+    each_command(Cursor::new(text), |command| {
+        if let Command::Request(kind, a, b, c) = command {
+            see(&desk.words, kind, a, b, c);
+        }
+        desk.carry_out(command).map(|_| ())
+    })
+    .expect("the cases are commands");
+}
+
+/// Any answer but 0 leaves the book untouched; an accepted request leaves it well-formed.
+#[test]
+fn refusals_leave_the_book_untouched() {
+    walk(text_of_cases(3, 5_000), |words, kind, a, b, c| {
+        let mut after = words.to_vec();
+        let answer = request(&mut after, kind, a, b, c);
+        if answer.0 != 0 {
+            assert!(after == words, "kind {kind} with {a}, {b}, {c} answered {answer:?}");
+        } else {
+            assert_eq!(lowest_bad_word(&after), None);
+        }
+    });
+}
+
+/// Every book reached from the blank one passes the audit.
+#[test]
+fn every_book_reached_from_blank_is_sound() {
+    let mut desk = Desk::new();
+    let (mut from_blank, mut seen) = (false, 0);
+    each_command(Cursor::new(text_of_cases(4, 8_000)), |command| {
+        match command {
+            Command::New(length) => from_blank = length == WORDS,
+            Command::Word(..) => from_blank = false,
+            _ => {}
+        }
+        desk.carry_out(command)?;
+        if from_blank {
+            assert_eq!(audit(&desk.words), (0, 0, 0));
+            seen += 1;
+        }
+        Ok(())
+    })
+    .expect("the cases are commands");
+    assert!(seen > 1500, "{seen} books show too little");
+}
+
+/// Reading a well-formed book and writing it again gives the same words.
+#[test]
+fn reading_and_writing_agree() {
+    walk(text_of_cases(5, 3_000), |words, _, _, _, _| {
+        if words.len() == WORDS && lowest_bad_word(words).is_none() {
+            assert!(Book::read(words).words() == words);
+        }
+    });
+}
+
+/// A short stream already shows every number that the document allows, and none besides.
+#[test]
+fn every_allowed_number_occurs() {
+    for seed in 0..2 {
+        let tally = Tally::of(Cursor::new(text_of_cases(seed, 6_000))).expect("the cases are commands");
+        assert_eq!(tally.not_allowed(), Vec::<String>::new());
+        assert_eq!(tally.missing(), Vec::<String>::new());
+    }
+}
+
+/// On the blank book each aimed situation gives just the number it aims at.
+#[test]
+fn every_aim_is_met() {
+    for &(kind, number) in AIMS {
+        for seed in 0..50 {
+            let (mut words, (kind, a, b, c)) = aimed_case(seed, kind, number);
+            assert_eq!(request(&mut words, kind, a, b, c).0, number, "kind {kind}, number {number}, seed {seed}");
+        }
+    }
+}
+
+/// The audit tells the lowest broken rule, and the cases show each rule as the only broken one.
+#[test]
+fn every_rule_is_broken_alone() {
+    let mut alone = [0; 11];
+    let mut desk = Desk::new();
+    each_command(Cursor::new(text_of_cases(6, 6_000)), |command| {
+        let answer = desk.carry_out(command)?;
+        if command == Command::Audit && answer.is_some_and(|(number, ..)| number > 40) {
+            let book = Book::read(&desk.words);
+            let broken: Vec<u64> = (1..=10).filter(|&rule| !rule_holds(&book, rule)).collect();
+            assert_eq!(answer, Some((40 + broken[0], 0, 0)));
+            if broken.len() == 1 {
+                alone[broken[0] as usize] += 1;
+            }
+        }
+        Ok(())
+    })
+    .expect("the cases are commands");
+    assert!(alone[1..].iter().all(|&times| times >= 3), "broken alone: {alone:?}");
+}
+
+/// The same seed gives the same cases, another seed gives others.
+#[test]
+fn cases_repeat() {
+    assert!(text_of_cases(7, 600) == text_of_cases(7, 600));
+    assert!(text_of_cases(7, 600) != text_of_cases(8, 600));
+}
+
+/// The answers of a small stream, letter by letter.
+#[test]
+fn the_format_of_answers() {
+    let stream = "n 4676\nr 1 3 9 9\nr 1 3 0 0\nr 12 0 0 8\nr 7 3 3 0\nw 3 5\na\nr 2 0 0 0\nn 2\nw 1 7\na\n";
+    let mut output = Vec::new();
+    answers(Cursor::new(stream), &mut output).expect("the stream is right");
+    let expected = "r 0 0 0 0 8\nr 5 0 0\nr 0 0 0 516 8\nr 7 0 0\na 2 3 0\nr 2 3 0\na 1 0 0\n";
+    assert_eq!(String::from_utf8(output).expect("plain letters"), expected);
+    for wrong in ["x\n", "n 4701\n", "n 2\nw 2 0\n", "r 1 2 3\n", "r 1 2 3 -4\n", "n  2\n", "a \n"] {
+        assert!(answers(Cursor::new(wrong), &mut Vec::new()).is_err(), "{wrong:?}");
+    }
+}

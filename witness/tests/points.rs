@@ -1,0 +1,85 @@
+//! "Numbers to check by": P1 to P14, word for word.
+
+mod common;
+
+use common::{accept, ask, blank, book_b, cell, defined};
+use witness::audit::audit;
+
+/// Book B written down by hand from the table of words.
+#[test]
+fn book_b_has_these_words() {
+    let mut words = blank();
+    (words[0], words[1], words[2]) = (0b111111, 0b1111, 0b111);
+    (words[4], words[4 + 1]) = (0b10, 0b01);
+    (words[68 + 2], words[68 + 4]) = (0b10000, 0b100);
+    (words[132 + 3], words[132 + 5]) = (0b100000, 0b1000);
+    (words[196 + 2], words[196 + 3]) = (0b1000, 0b100);
+    words[260 + 3] = 0b100;
+    (words[324], words[325], words[326], words[327]) = (0b1, 0b10, 0b1100, 0b110000);
+    (words[388], words[389], words[390]) = (0b1, 0b1000, 0b1000);
+    (words[452], words[453], words[454]) = (1, 4, 4);
+    assert!(words == book_b());
+    assert_eq!(audit(&words), (0, 0, 0));
+}
+
+#[test]
+fn p1_to_p4() {
+    assert_eq!(ask(&mut book_b(), 5, 0, 1, 0), (22, 0, 0));
+    assert_eq!(ask(&mut book_b(), 4, 2, 3, 0), (23, 0, 0));
+    assert_eq!(ask(&mut book_b(), 4, 2, 5, 0), (24, 0, 0));
+    assert_eq!(ask(&mut book_b(), 4, 4, 5, 0), (25, 3, 0));
+}
+
+#[test]
+fn p5_to_p7() {
+    assert_eq!(ask(&mut book_b(), 7, 3, 4, 0), (28, 2, 4));
+    assert_eq!(ask(&mut book_b(), 10, 1, 0, 0), (32, 0, 0));
+    assert_eq!(ask(&mut book_b(), 8, 1, 0, 0), (31, 0, 0));
+}
+
+#[test]
+fn p8_and_p9() {
+    assert_eq!(ask(&mut book_b(), 9, 3, 2, 0), (30, 0, 0));
+    assert_eq!(ask(&mut book_b(), 9, 0, 1, 0), (31, 1, 1));
+}
+
+#[test]
+fn p10_to_p12() {
+    let mut words = book_b();
+    accept(&mut words, &[(12, 0, 0, 60), (13, 2, 0, 1)]);
+    assert_eq!(words[cell(0, 2)..=cell(0, 5)], [514, 514, 0, 512]);
+    assert_eq!(ask(&mut words, 13, 4, 0, 1), (34, 2, 4));
+    accept(&mut words, &[(13, 4, 0, 2)]);
+    assert_eq!(words[cell(0, 4)], 515);
+    assert_eq!(ask(&mut words, 13, 3, 0, 2), (9, 1, 0));
+    accept(&mut words, &[(13, 5, 0, 2)]);
+    assert_eq!(words[cell(0, 5)], 515);
+    assert_eq!(ask(&mut words, 4, 0, 2, 0), (7, 0, 0));
+    let mut expected = book_b();
+    expected[516] = 60;
+    expected[cell(0, 2)..=cell(0, 5)].copy_from_slice(&[514, 514, 515, 515]);
+    assert!(words == expected);
+}
+
+#[test]
+fn p13() {
+    let mut words = defined(4, 0, 0);
+    accept(&mut words, &[(7, 0, 1, 0), (7, 2, 3, 0), (4, 1, 3, 0)]);
+    assert_eq!(ask(&mut words, 7, 0, 2, 0), (27, 1, 3));
+}
+
+/// The book of P14, up to the assignment of role 1.
+fn book_of_p14() -> Vec<u64> {
+    let mut words = defined(2, 2, 1);
+    accept(&mut words, &[(4, 0, 1, 0), (8, 0, 0, 0), (8, 1, 1, 0), (10, 0, 0, 0)]);
+    accept(&mut words, &[(12, 0, 0, 3), (13, 0, 0, 0), (17, 0, 0, 0), (10, 1, 0, 0)]);
+    words
+}
+
+#[test]
+fn p14() {
+    let mut words = book_of_p14();
+    assert_eq!(ask(&mut words, 13, 1, 0, 0), (8, 0, 0));
+    accept(&mut words, &[(11, 1, 0, 0)]);
+    assert_eq!(ask(&mut words, 13, 1, 0, 0), (33, 0, 1));
+}

@@ -1,0 +1,240 @@
+//! Places where two careful readers could differ: one case for each reading, most on books
+//! that are well-formed but that no run of requests reaches.
+
+mod common;
+
+use common::{accept, ask, book_b, cell, defined};
+use witness::audit::{audit, rule_holds};
+use witness::book::{Book, Cell};
+use witness::set::Set;
+
+/// A book with tasks, roles and subjects from 0 up to (not including) these numbers.
+fn plain(tasks: u64, roles: u64, subjects: u64) -> Book {
+    Book::read(&defined(tasks, roles, subjects))
+}
+
+fn asked(book: &Book, kind: u64, a: u64, b: u64, c: u64) -> (u64, u64, u64) {
+    ask(&mut book.words(), kind, a, b, c)
+}
+
+fn cell_of(role: usize, subject: usize) -> Cell {
+    Cell { role: Some(role), subject: Some(subject) }
+}
+
+/// Number 4: all three arguments first, then whether the task is in the order.
+#[test]
+fn arguments_before_membership() {
+    let mut words = book_b();
+    accept(&mut words, &[(12, 0, 0, 0b1)]);
+    assert_eq!(ask(&mut words, 13, 1, 0, 9), (4, 3, 0));
+    assert_eq!(ask(&mut words, 13, 1, 1, 9), (4, 2, 0));
+    assert_eq!(ask(&mut words, 13, 1, 0, 0), (4, 1, 0));
+    assert_eq!(ask(&mut words, 12, 0, 0, 0), (4, 3, 0));
+}
+
+/// Number 5 asks the bit itself: for kind 10 not the active word, for kinds 4 to 7 not the other row.
+#[test]
+fn already_set_is_the_bit_itself() {
+    let mut book = plain(2, 2, 1);
+    book.active[0] = Some(1);
+    let mut words = book.words();
+    accept(&mut words, &[(10, 1, 0, 0)]);
+    assert_eq!(words[452], 2);
+    accept(&mut words, &[(10, 0, 0, 0)]);
+    assert_eq!(words[452], 2);
+    book.sb[1].put(0);
+    let mut words = book.words();
+    assert_eq!(ask(&mut words, 7, 1, 0, 0), (5, 0, 0));
+    accept(&mut words, &[(7, 0, 1, 0)]);
+    assert_eq!((words[196], words[197]), (0b10, 0b01));
+}
+
+/// A role as its own junior: 5 where the bit stands, else 29, also on a cycle.
+#[test]
+fn own_junior() {
+    let mut book = plain(0, 2, 0);
+    assert_eq!(asked(&book, 9, 0, 0, 0), (29, 0, 0));
+    book.juniors[0].put(1);
+    book.juniors[1].put(0);
+    assert_eq!(asked(&book, 9, 0, 0, 0), (29, 0, 0));
+    book.juniors[0].put(0);
+    assert_eq!(asked(&book, 9, 0, 0, 0), (5, 0, 0));
+}
+
+/// 5 and 6 ask what is directly there, 8 asks what is owned.
+#[test]
+fn directly_there_or_owned() {
+    let mut words = defined(1, 3, 1);
+    accept(&mut words, &[(9, 1, 0, 0), (9, 2, 1, 0), (8, 0, 2, 0), (10, 0, 0, 0)]);
+    assert_eq!(ask(&mut words, 15, 0, 0, 0), (6, 0, 0));
+    assert_eq!(ask(&mut words, 16, 2, 0, 0), (6, 0, 0));
+    assert_eq!(ask(&mut words, 17, 2, 0, 0), (6, 0, 0));
+    accept(&mut words, &[(11, 2, 0, 0), (9, 2, 0, 0), (8, 0, 0, 0), (10, 2, 0, 0), (17, 0, 0, 0)]);
+    assert_eq!(ask(&mut words, 11, 0, 0, 0), (8, 0, 0));
+    accept(&mut words, &[(11, 2, 0, 0)]);
+}
+
+/// Number 7 comes after 5 and before every conflict.
+#[test]
+fn open_orders_come_before_conflicts() {
+    let mut words = book_b();
+    accept(&mut words, &[(12, 40, 0, 1), (12, 7, 0, 1)]);
+    assert_eq!(ask(&mut words, 4, 0, 0, 0), (7, 7, 0));
+    assert_eq!(ask(&mut words, 4, 0, 1, 0), (5, 0, 0));
+}
+
+/// 9 and 10 look at the cell of task a alone; 10 needs another role than the active one.
+#[test]
+fn the_cell_of_the_task_alone() {
+    let mut book = Book::read(&book_b());
+    book.orders[0] = Set::of(&[2, 3, 5]);
+    book.cells[0][3] = cell_of(0, 0);
+    assert_eq!(asked(&book, 13, 2, 0, 1), (0, 0, 0));
+    book.cells[0][2] = Cell { role: Some(2), subject: None };
+    assert_eq!(asked(&book, 13, 2, 0, 1), (10, 2, 0));
+    book.cells[0][2] = Cell { role: Some(3), subject: None };
+    assert_eq!(asked(&book, 13, 2, 0, 1), (0, 0, 0));
+    book.cells[0][2] = cell_of(0, 2);
+    assert_eq!(asked(&book, 13, 2, 0, 1), (9, 2, 0));
+}
+
+/// The change of kind 13 goes over what stands in the cells; outside the subject group S is kept.
+#[test]
+fn what_an_allocation_writes() {
+    let mut book = Book::read(&book_b());
+    book.orders[0] = Set::of(&[0, 2, 3, 5]);
+    (book.cells[0][0], book.cells[0][3], book.cells[0][5]) = (cell_of(0, 0), cell_of(0, 0), cell_of(1, 2));
+    let mut words = book.words();
+    accept(&mut words, &[(13, 2, 0, 1)]);
+    assert_eq!(words[cell(0, 0)..=cell(0, 5)], [129, 0, 514, 514, 0, 515]);
+}
+
+/// 21 to 24 go one way: b in a's row, b in the group of a along rows.
+#[test]
+fn pairs_have_a_direction() {
+    let mut book = plain(3, 0, 0);
+    book.dme[0].put(1);
+    assert_eq!((asked(&book, 4, 0, 1, 0), asked(&book, 4, 1, 0, 0)), ((21, 0, 0), (0, 0, 0)));
+    let mut book = plain(3, 0, 0);
+    book.sme[0].put(1);
+    assert_eq!((asked(&book, 5, 0, 1, 0), asked(&book, 5, 1, 0, 0)), ((22, 0, 0), (0, 0, 0)));
+    let mut book = plain(3, 0, 0);
+    book.sb[0].put(1);
+    book.sb[1].put(2);
+    assert_eq!((asked(&book, 5, 0, 2, 0), asked(&book, 5, 2, 0, 0)), ((23, 0, 0), (0, 0, 0)));
+    book.sb[1].take(2);
+    book.rb[1].put(2);
+    assert_eq!((asked(&book, 4, 0, 2, 0), asked(&book, 4, 2, 0, 0)), ((24, 0, 0), (0, 0, 0)));
+}
+
+/// 27 and 28: y in x's row, x of a's group and y of b's. A request turned round may be accepted.
+#[test]
+fn excluding_groups_have_a_direction() {
+    let mut book = plain(6, 0, 0);
+    book.sb[0].put(4);
+    book.sb[1].put(3);
+    book.dme[4].put(3);
+    assert_eq!((asked(&book, 7, 0, 1, 0), asked(&book, 7, 1, 0, 0)), ((28, 4, 3), (0, 0, 0)));
+    book.sme[4].put(1);
+    book.sme[0].put(3);
+    assert_eq!((asked(&book, 7, 0, 1, 0), asked(&book, 7, 1, 0, 0)), ((27, 0, 3), (0, 0, 0)));
+    assert_eq!(asked(&book, 6, 0, 1, 0), (27, 0, 3));
+}
+
+/// 31: the gained task stands in the owned task's row, and not the other way.
+#[test]
+fn gaining_has_a_direction() {
+    let mut book = plain(2, 1, 1);
+    book.tasks_of_role[0].put(0);
+    book.sme[1].put(0);
+    assert_eq!(asked(&book, 8, 1, 0, 0), (0, 0, 0));
+    book.sme[1].take(0);
+    book.sme[0].put(1);
+    assert_eq!(asked(&book, 8, 1, 0, 0), (31, 0, 0));
+}
+
+/// 31: on a cycle b may be its own senior, and a gained task may be one already owned.
+#[test]
+fn gaining_on_an_unsound_book() {
+    let mut book = plain(3, 4, 1);
+    book.juniors[2].put(3);
+    book.juniors[3].put(2);
+    book.tasks_of_role[2] = Set::of(&[1, 2]);
+    book.sme[2].put(1);
+    book.juniors[0].put(2);
+    // Role 3 owns 1 and 2 through the cycle; so does role 0 above it. Role 1 would bring task 1 again.
+    book.tasks_of_role[1].put(1);
+    assert_eq!(asked(&book, 9, 1, 3, 0), (31, 0, 2));
+    assert_eq!(asked(&book, 9, 3, 1, 0), (0, 0, 0));
+    // A task SME to itself is owned and gained at once.
+    book.sme[1].put(1);
+    assert_eq!(asked(&book, 9, 3, 1, 0), (31, 1, 1));
+    assert_eq!(asked(&book, 9, 2, 3, 0), (5, 0, 0));
+}
+
+/// 32: kinds 8 and 9 ask the subjects that own role b, assigned or reached; kind 10 asks b alone.
+#[test]
+fn which_subjects_gain() {
+    let mut words = defined(2, 4, 3);
+    accept(&mut words, &[(4, 0, 1, 0), (8, 0, 0, 0), (9, 1, 2, 0), (8, 1, 3, 0)]);
+    accept(&mut words, &[(10, 0, 2, 0), (10, 2, 2, 0), (10, 0, 1, 0)]);
+    assert_eq!(ask(&mut words, 8, 1, 1, 0), (32, 2, 0));
+    assert_eq!(ask(&mut words, 9, 3, 1, 0), (32, 2, 0));
+    assert_eq!(ask(&mut words, 10, 3, 1, 0), (32, 1, 0));
+    accept(&mut words, &[(10, 3, 0, 0)]);
+}
+
+/// 33 and 34: x may lie in a's own group and may equal y; an SME partner comes before any DME partner.
+#[test]
+fn holding_in_the_own_group() {
+    let mut book = plain(3, 1, 1);
+    book.tasks_of_role[0] = Set::of(&[0, 1, 2]);
+    book.roles_of_subject[0].put(0);
+    book.active[0] = Some(0);
+    book.orders[0] = Set::of(&[0, 1, 2]);
+    book.sb[0].put(1);
+    book.cells[0][1] = cell_of(0, 0);
+    assert_eq!(asked(&book, 13, 0, 0, 0), (0, 0, 0));
+    book.dme[1].put(1);
+    assert_eq!(asked(&book, 13, 0, 0, 0), (34, 1, 1));
+    book.dme[1].put(0);
+    assert_eq!(asked(&book, 13, 0, 0, 0), (34, 1, 0));
+    book.cells[0][2] = cell_of(0, 0);
+    book.sme[2].put(1);
+    assert_eq!(asked(&book, 13, 0, 0, 0), (33, 2, 1));
+    // The group is cut to the order: with task 1 outside it, nothing is met.
+    book.orders[0].take(1);
+    book.cells[0][1] = Cell { role: None, subject: None };
+    assert_eq!(asked(&book, 13, 0, 0, 0), (0, 0, 0));
+}
+
+/// Rule 9 counts u = v, and both exclusions; 0 is no subject.
+#[test]
+fn rule_9() {
+    let mut book = plain(2, 1, 1);
+    book.orders[0] = Set::of(&[0, 1]);
+    book.dme[0].put(1);
+    assert!(rule_holds(&book, 9));
+    (book.cells[0][0], book.cells[0][1]) = (cell_of(0, 0), cell_of(0, 0));
+    assert!(!rule_holds(&book, 9));
+    book.dme[0] = Set::of(&[0]);
+    assert!(!rule_holds(&book, 9));
+    assert_eq!(audit(&book.words()), (41, 0, 0));
+}
+
+/// Rule 10: the chain runs through a task outside the order, and 0 counts as a value.
+#[test]
+fn rule_10() {
+    let mut words = defined(3, 1, 1);
+    accept(&mut words, &[(7, 0, 1, 0), (6, 1, 2, 0)]);
+    let mut book = Book::read(&words);
+    book.orders[0] = Set::of(&[0, 2]);
+    assert_eq!(audit(&book.words()), (0, 0, 0));
+    book.cells[0][0] = cell_of(0, 0);
+    assert_eq!(audit(&book.words()), (50, 0, 0));
+    book.cells[0][2].role = Some(0);
+    assert_eq!(audit(&book.words()), (0, 0, 0));
+    book.orders[0].put(1);
+    book.cells[0][1].role = Some(0);
+    assert_eq!(audit(&book.words()), (50, 0, 0));
+}
