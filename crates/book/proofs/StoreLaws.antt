@@ -1,4 +1,4 @@
--- Words and tables: which word each row and cell is, and what one stored word changes in the tables.
+-- What one stored word changes in the tables, and nothing else.
 use mathlib.Core.Path.{_≡_, refl, sym, ap, _∙_, fun-ext}
 use mathlib.Core.Bool.{Bool, true, false, _&&_}
 use mathlib.Core.List.{List}
@@ -14,25 +14,8 @@ use Rattle.sets.proofs.Logic.{and-out, and-in, not-both}
 use Rattle.sets.proofs.MaskLaws.{only-yes}
 use Rattle.rules.specs.Book.{Book, read}
 use Rattle.rules.specs.Requests.{setRow, setHead, setTable}
+use Rattle.rules.proofs.BookLaws.{book-ext}
 use Rattle.book.specs.Slice.{words, tables, setCell}
-
--- Two books with the same tables are the same.
-pub book-ext : (d e : Book) → ((i : ℕ) → d .head i ≡ e .head i) → ((n r : ℕ) → d .row n r ≡ e .row n r) → ((p t : ℕ) → d .cell p t ≡ e .cell p t) → d ≡ e
-book-ext d e f g h = λ i. record { head = λ j. f j i; row = λ n r. g n r i; cell = λ p t. h p t i }
-
--- Which word each is.
-module _ (w : ℕ → ℕ) where
-  pub head-word : (i : ℕ) → i < 4 → (read w) .head i ≡ w i
-  unfolding read
-  head-word i h = only-yes (ltb i 4) (w i) (lt-ltb i 4 h)
-
-  pub row-word : (n r : ℕ) → n < 9 → r < 64 → (read w) .row n r ≡ w (4 + 64 * n + r)
-  unfolding read
-  row-word n r h l = only-yes (ltb n 9 && ltb r 64) _ (and-in (lt-ltb n 9 h) (lt-ltb r 64 l))
-
-  pub cell-word : (p t : ℕ) → p < 64 → t < 64 → (read w) .cell p t ≡ w (580 + 64 * p + t)
-  unfolding read
-  cell-word p t h l = only-yes (ltb p 64 && ltb t 64) _ (and-in (lt-ltb p 64 h) (lt-ltb t 64 l))
 
 -- One word stored.
 abbrev pub put : (ℕ → ℕ) → ℕ → ℕ → ℕ → ℕ

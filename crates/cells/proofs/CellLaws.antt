@@ -15,7 +15,7 @@ use Rattle.rules.specs.Book.{Book, read}
 use Rattle.rules.specs.Requests.{written, stamped}
 use Rattle.rules.proofs.BookLaws.{read-no-cell}
 use Rattle.book.specs.Slice.{setCell}
-use Rattle.book.proofs.StoreLaws.{book-ext}
+use Rattle.rules.proofs.BookLaws.{book-ext}
 use Rattle.cells.specs.Cells.{writtenTo, writtenAll, newCell}
 
 -- a choice by a test whose value is known

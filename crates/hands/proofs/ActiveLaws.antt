@@ -35,10 +35,10 @@ module _ (d : Book) (c : ℕ) where
   looked-up n = sym (ap (λ (t : Bool). t && bit owned (d .row active c - 1)) (ap not (ne-eqb (d .row active c) 0 n)))
 
   -- An active role that is owned, in a book of 64-bit words, has a number of 0 to 63.
-  pub active-bounds : Sized d → activeOwned d c ≡ true → (0 < d .row active c) × (d .row active c ≤ 64)
+  pub active-bounds : Sized d → activeOwned d c ≡ true → {e : ℕ} → e ≡ d .row active c → (0 < e) × (e ≤ 64)
   unfolding activeOwned below
-  active-bounds sized e =
-      let o = and-out (not (eqb (d .row active c) 0)) (bit owned (d .row active c - 1)) e in
+  active-bounds sized h {e} word =
+      let o = and-out (not (eqb (d .row active c) 0)) (bit owned (d .row active c - 1)) h in
       let some : d .row active c ≡ 0 → ⊥ = eqb-false (d .row active c) 0 (not-true (eqb (d .row active c) 0) (o .0)) in
       let few = close-lt (d .row juniors) (sized .rows juniors .fits) 64 (d .row rolesOf c) (sized .rows rolesOf .fits c) in
       let role : d .row active c - 1 < 64 = bit-lt owned (d .row active c - 1) few (o .1) in

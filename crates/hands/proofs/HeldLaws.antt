@@ -6,7 +6,6 @@ use native.Mathlib.Numerals.{add-one}
 use lib.Dec.{eqb}
 use lib.Bits.{bitOr, or-zero-r}
 use Rattle.sets.specs.Mask.{bit, with, only, joined}
-use Rattle.sets.proofs.MaskLaws.{only-yes, only-no}
 use Rattle.rules.specs.Book.{Book, subjectIn}
 use Rattle.trade.proofs.MixedLaws.{joined-next}
 use Rattle.hands.specs.Held.{heldRow, heldNext}

@@ -2,7 +2,7 @@
 use mathlib.Core.Path.{sym}
 use native.Mathlib.Omega.{arith}
 use Rattle.book.specs.Slice.{words}
-use Rattle.book.proofs.StoreLaws.{cell-word}
+use Rattle.rules.proofs.BookLaws.{read-cell}
 use borrow.Author.Needs.{needs}
 use Rattle.book.proofs.cell.Statement.{statement}
 use Rattle.book.proofs.cell.Tie as tie
@@ -23,7 +23,7 @@ shared-slice-read-result : tie.Need-shared-slice-read-result
 shared-slice-read-result c = search needs
 
 returns : tie.Need-returns
-returns c = let s = c .before .args in sym (cell-word (words (s .book .now)) (s .order) (s .task) (omega arith) (omega arith))
+returns c = let s = c .before .args in sym (read-cell (words (s .book .now)) (s .order) (s .task) (omega arith) (omega arith))
 
 pub cell-spec : {M : Type 1} → statement M
 cell-spec =

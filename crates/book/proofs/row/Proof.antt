@@ -2,7 +2,7 @@
 use mathlib.Core.Path.{sym}
 use native.Mathlib.Omega.{arith}
 use Rattle.book.specs.Slice.{words}
-use Rattle.book.proofs.StoreLaws.{row-word}
+use Rattle.rules.proofs.BookLaws.{read-row}
 use borrow.Author.Needs.{needs}
 use Rattle.book.proofs.row.Statement.{statement}
 use Rattle.book.proofs.row.Tie as tie
@@ -23,7 +23,7 @@ shared-slice-read-result : tie.Need-shared-slice-read-result
 shared-slice-read-result c = search needs
 
 returns : tie.Need-returns
-returns c = let s = c .before .args in sym (row-word (words (s .book .now)) (s .table) (s .r) (omega arith) (omega arith))
+returns c = let s = c .before .args in sym (read-row (words (s .book .now)) (s .table) (s .r) (omega arith) (omega arith))
 
 pub row-spec : {M : Type 1} → statement M
 row-spec =

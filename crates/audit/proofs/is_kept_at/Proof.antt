@@ -1,0 +1,125 @@
+-- Each arm is its rule of the list; what is left is the tenth.
+use Rattle.audit.specs.Kept.{tests, keptAt}
+use Rattle.audit.proofs.KeptLaws.{tenth}
+use borrow.Author.Needs.{needs}
+use Rattle.audit.proofs.is_kept_at.Statement.{statement}
+use Rattle.audit.proofs.is_kept_at.Tie as tie
+
+is-kept-in-four-requires : tie.Need-is-kept-in-four-requires
+is-kept-in-four-requires c κs = search needs
+
+is-kept-in-four-requires-2 : tie.Need-is-kept-in-four-requires-2
+is-kept-in-four-requires-2 c κs = search needs
+
+row-requires : tie.Need-row-requires
+row-requires c κs = search needs
+
+is-apart-requires : tie.Need-is-apart-requires
+is-apart-requires c κs = search needs
+
+role-group-requires : tie.Need-role-group-requires
+role-group-requires c κs = search needs
+
+is-apart-requires-2 : tie.Need-is-apart-requires-2
+is-apart-requires-2 c κs = search needs
+
+subject-group-requires : tie.Need-subject-group-requires
+subject-group-requires c κs = search needs
+
+is-apart-requires-3 : tie.Need-is-apart-requires-3
+is-apart-requires-3 c κs = search needs
+
+is-acyclic-requires : tie.Need-is-acyclic-requires
+is-acyclic-requires c κs = search needs
+
+is-pair-free-requires : tie.Need-is-pair-free-requires
+is-pair-free-requires c κs = search needs
+
+is-pair-free-requires-2 : tie.Need-is-pair-free-requires-2
+is-pair-free-requires-2 c κs = search needs
+
+is-kept-requires : tie.Need-is-kept-requires
+is-kept-requires c κs = search needs
+
+subject-group-requires-2 : tie.Need-subject-group-requires-2
+subject-group-requires-2 c κs = search needs
+
+role-group-requires-2 : tie.Need-role-group-requires-2
+role-group-requires-2 c κs = search needs
+
+is-kept-requires-2 : tie.Need-is-kept-requires-2
+is-kept-requires-2 c κs = search needs
+
+returns : tie.Need-returns
+unfolding keptAt tests
+returns c = rw (c .before .match .keys1) (c .is-kept-in-four .ensures)
+
+returns-2 : tie.Need-returns-2
+unfolding keptAt tests
+returns-2 c = rw (c .before .match .keys2) (c .is-kept-in-four2 .ensures)
+
+returns-3 : tie.Need-returns-3
+unfolding keptAt tests
+returns-3 c = rw (c .before .before .match .keys3, ← c .before .row .ensures) (c .is-apart .ensures)
+
+returns-4 : tie.Need-returns-4
+unfolding keptAt tests
+returns-4 c = rw (c .before .before .match .keys4, ← c .before .role-group .ensures) (c .is-apart2 .ensures)
+
+returns-5 : tie.Need-returns-5
+unfolding keptAt tests
+returns-5 c = rw (c .before .before .match .keys5, ← c .before .subject-group .ensures) (c .is-apart3 .ensures)
+
+returns-6 : tie.Need-returns-6
+unfolding keptAt tests
+returns-6 c = rw (c .before .match .keys6) (c .is-acyclic .ensures)
+
+returns-7 : tie.Need-returns-7
+unfolding keptAt tests
+returns-7 c = rw (c .before .match .keys7) (c .is-pair-free .ensures)
+
+returns-8 : tie.Need-returns-8
+unfolding keptAt tests
+returns-8 c = rw (c .before .match .keys8) (c .is-pair-free2 .ensures)
+
+returns-9 : tie.Need-returns-9
+unfolding keptAt tests
+returns-9 c = rw (c .before .match .keys9) (c .is-kept .ensures)
+
+returns-10 : tie.Need-returns-10
+unfolding keptAt tests
+returns-10 c =
+    let s = c .before .before .before .before .before in
+    let r = c .before .before .before .match .rest in
+    let e = tenth (s .pre .1) (s .pre .2) (r .0 .0 .0 .0 .0 .0 .0 .0 .1) (r .0 .0 .0 .0 .0 .0 .0 .1) (r .0 .0 .0 .0 .0 .0 .1) (r .0 .0 .0 .0 .0 .1) (r .0 .0 .0 .0 .1) (r .0 .0 .0 .1) (r .0 .0 .1) (r .0 .1) (r .1) in
+    rw (e, ← c .before .before .subject-group2 .ensures, ← c .before .role-group2 .ensures) (c .is-kept2 .ensures)
+
+pub is-kept-at-spec : {M : Type 1} → statement M
+is-kept-at-spec =
+    tie.close
+    (tie.spec
+    is-kept-in-four-requires
+    is-kept-in-four-requires-2
+    row-requires
+    is-apart-requires
+    role-group-requires
+    is-apart-requires-2
+    subject-group-requires
+    is-apart-requires-3
+    is-acyclic-requires
+    is-pair-free-requires
+    is-pair-free-requires-2
+    is-kept-requires
+    subject-group-requires-2
+    role-group-requires-2
+    is-kept-requires-2
+    returns
+    returns-2
+    returns-3
+    returns-4
+    returns-5
+    returns-6
+    returns-7
+    returns-8
+    returns-9
+    returns-10)

@@ -1,0 +1,4 @@
+pub mod Exits
+pub mod KindRanges
+pub mod OneOutcome
+pub mod TableLaws

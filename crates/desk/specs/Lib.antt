@@ -1,0 +1,2 @@
+pub mod Guarantee
+pub mod Tables
