@@ -2,9 +2,6 @@
 # stream of cases, and each answer and each changed word has to be the same. Sourced by .ci/run at the top of the repository.
 # The stream is a new one each time; TOWERPLANK_SEED=N plays that of seed N again.
 
-# The independent program, built where it is not built yet.
-witness() { CARGO_TARGET_DIR=target/witness cargo run --release --offline --quiet --manifest-path witness/Cargo.toml -- "$@"; }
-
 agree_seed=${TOWERPLANK_SEED:-$(date +%s)}
 agree_count=20000
 
@@ -34,8 +31,8 @@ same_answers() { # CASES EXPECTED ANSWERED: goes along all three, and tells of t
 }
 
 agrees_on() { # SEED COUNT ROOM
-    witness cases "$1" "$2" >"$3/cases" &&
-        witness answers <"$3/cases" >"$3/expected" &&
+    tools/witness cases "$1" "$2" >"$3/cases" &&
+        tools/witness answers <"$3/cases" >"$3/expected" &&
         tools/run-program target/bin/replay <"$3/cases" >"$3/answered" &&
         same_answers "$3/cases" "$3/expected" "$3/answered"
 }
@@ -57,7 +54,7 @@ passes_over() { # ROOM
     tools/run-program target/bin/replay <"$1/lines" | cmp - "$1/told"
 }
 
-stored_is_expected() { witness answers <crates/replay/stdin | cmp - crates/replay/stdout; }
+stored_is_expected() { tools/witness answers <crates/replay/stdin | cmp - crates/replay/stdout; }
 
 agree_room=$(mktemp -d)
 holds "the engine and the independent program agree on $agree_count cases and more of seed $agree_seed" agrees_on "$agree_seed" "$agree_count" "$agree_room"

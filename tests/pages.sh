@@ -1,16 +1,22 @@
-# The examples of the pages: each block marked `shift` is played at the panel, and the block marked `answer` after it is what it prints.
+# The examples of the pages. A block marked `shift` is played at the panel, one marked `stream` by the program replay,
+# and the block marked `answer` or `answers` after it is what it prints.
 
 examples=$(mktemp -d)
 for page in docs/*.md README.md; do
     awk -v room="$examples/$(basename "$page" .md)" '
-        /^```shift$/ { n++; file = sprintf("%s-%02d.txt", room, n); printf "" >file; next }
-        /^```answer$/ { file = sprintf("%s-%02d.out", room, n); printf "" >file; next }
+        /^```(shift|stream)$/ { n++; file = sprintf("%s-%02d.%s", room, n, substr($0, 4)); printf "" >file; next }
+        /^```answers?$/ { file = sprintf("%s-%02d.out", room, n); printf "" >file; next }
         /^```$/ { if (file) close(file); file = ""; next }
         file { print >file }' "$page"
 done
-for example in "$examples"/*.txt; do
+
+plays() { # PROGRAM EXAMPLE
+    tools/run-program "target/bin/$1" <"$2" | cmp - "${2%.*}.out"
+}
+
+for example in "$examples"/*.shift "$examples"/*.stream; do
     [ -f "$example" ] || continue
-    tools/run-program target/bin/panel <"$example" >"$examples/printed"
-    holds "the example $(basename "$example" .txt) prints what its page says" cmp "$examples/printed" "${example%.txt}.out"
+    case $example in *.shift) program=panel ;; *) program=replay ;; esac
+    holds "the example $(basename "${example%.*}") prints what its page says" plays "$program" "$example"
 done
 rm -rf "$examples"

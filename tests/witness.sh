@@ -1,9 +1,6 @@
 # The independent program: its own tests, counted one by one, and that its cases reach every answer there is.
 # Sourced by .ci/run at the top of the repository.
 
-# Builds it, where it is not built yet, and runs it.
-witness() { CARGO_TARGET_DIR=target/witness cargo run --release --offline --quiet --manifest-path witness/Cargo.toml -- "$@"; }
-
 own_tests() { # LOG: runs them and adds each to the count
     CARGO_TARGET_DIR=target/witness cargo test --release --offline --manifest-path witness/Cargo.toml >"$1" 2>&1
     own_ended=$?
@@ -24,6 +21,6 @@ own_tests "$own_log"
 rm -f "$own_log"
 
 reaches_all() { # SEED COUNT
-    witness cases "$1" "$2" | witness count | grep -qx 'missing: none'
+    tools/witness cases "$1" "$2" | tools/witness count | grep -qx 'missing: none'
 }
 holds "20,000 cases reach every number that document 01 allows, for each kind and the audit" reaches_all 1 20000

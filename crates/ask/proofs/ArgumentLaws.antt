@@ -14,6 +14,7 @@ use Rattle.rules.specs.Book.{Book}
 use Rattle.rules.specs.Requests.{Needs, unused, inRange, aTask, aRole, aSubject, anOpenOrder, aTaskMask, Row, rowOf, table, fits}
 use Rattle.rules.specs.Numbers.{Said, say, given, argumentFault}
 use Rattle.rules.proofs.BookLaws.{chosen, unchosen}
+use Rattle.rules.proofs.ChangeLaws.{asksNumber, fits-lt}
 use Rattle.ask.specs.declared.Argument.{Argument}
 use Rattle.ask.specs.Arguments.{needOf, argumentOf, firstFailing, faultOf}
 
@@ -75,54 +76,33 @@ module _ (d : Book) (row : Row) (a b c : ℕ) where
   unfolding faultOf
   all-fit e = all-three (fits d (row .a) a) (fits d (row .b) b) (fits d (row .c) c) e
 
--- The argument is the number of something, and no mask.
-abbrev pub numbers : Needs → Bool
-numbers unused = false
-numbers inRange = true
-numbers aTask = true
-numbers aRole = true
-numbers aSubject = true
-numbers anOpenOrder = true
-numbers aTaskMask = false
-
--- A number that fits is below 64.
-pub fits-below : (d : Book) (n : Needs) (v : ℕ) → numbers n ≡ true → fits d n v ≡ true → v < 64
-unfolding fits
-fits-below d unused v t e = absurd (not-both false t refl)
-fits-below d inRange v t e = ltb-true v 64 e
-fits-below d aTask v t e = ltb-true v 64 (and-out (ltb v 64) _ e .0)
-fits-below d aRole v t e = ltb-true v 64 (and-out (ltb v 64) _ e .0)
-fits-below d aSubject v t e = ltb-true v 64 (and-out (ltb v 64) _ e .0)
-fits-below d anOpenOrder v t e = ltb-true v 64 (and-out (ltb v 64) _ e .0)
-fits-below d aTaskMask v t e = absurd (not-both false t refl)
-
 -- Of the kinds from i on each of n asks for a number in the same place: then so does any one of them.
-asks-number : (place : Row → Needs) (i n : ℕ) → all n (λ j. numbers (place (rowOf (i + j)))) ≡ true
-    → (k : ℕ) → i ≤ k → k < i + n → numbers (place (rowOf k)) ≡ true
+asks-number : (place : Row → Needs) (i n : ℕ) → all n (λ j. asksNumber (place (rowOf (i + j)))) ≡ true
+    → (k : ℕ) → i ≤ k → k < i + n → asksNumber (place (rowOf k)) ≡ true
 asks-number place i n e k h l =
     let q : i + (k - i) ≡ k = omega arith in
-    subst (λ (x : ℕ). numbers (place (rowOf x)) ≡ true) q (all-out n (λ j. numbers (place (rowOf (i + j)))) e (k - i) (omega arith))
+    subst (λ (x : ℕ). asksNumber (place (rowOf x)) ≡ true) q (all-out n (λ j. asksNumber (place (rowOf (i + j)))) e (k - i) (omega arith))
 
 -- The arguments of a request of kind k, none at fault.
 module _ (d : Book) (k a b c : ℕ) (e : faultOf d (rowOf k) a b c ≡ 0) where
   -- Kinds 1 to 17: a is below 64.
   pub a-below : 1 ≤ k → k < 18 → a < 64
   unfolding all rowOf table
-  a-below h l = fits-below d (rowOf k .a) a (asks-number (λ r. r .a) 1 17 refl k h l) (all-fit d (rowOf k) a b c e .0)
+  a-below h l = fits-lt d (rowOf k .a) a (asks-number (λ r. r .a) 1 17 refl k h l) (all-fit d (rowOf k) a b c e .0)
 
   -- Kinds 4 to 11: b is below 64.
   pub b-below : 4 ≤ k → k < 12 → b < 64
   unfolding all rowOf table
-  b-below h l = fits-below d (rowOf k .b) b (asks-number (λ r. r .b) 4 8 refl k h l) (all-fit d (rowOf k) a b c e .1)
+  b-below h l = fits-lt d (rowOf k .b) b (asks-number (λ r. r .b) 4 8 refl k h l) (all-fit d (rowOf k) a b c e .1)
 
   -- Kinds 15 to 17: b is below 64.
   pub b-below-back : 15 ≤ k → k < 18 → b < 64
   unfolding all rowOf table
-  b-below-back h l = fits-below d (rowOf k .b) b (asks-number (λ r. r .b) 15 3 refl k h l) (all-fit d (rowOf k) a b c e .1)
+  b-below-back h l = fits-lt d (rowOf k .b) b (asks-number (λ r. r .b) 15 3 refl k h l) (all-fit d (rowOf k) a b c e .1)
 
 -- Kind 13: b and c are below 64.
 pub allocate-below : (d : Book) (a b c : ℕ) → faultOf d (rowOf 13) a b c ≡ 0 → (b < 64) × (c < 64)
 unfolding rowOf table
 allocate-below d a b c e =
     let f = all-fit d (rowOf 13) a b c e in
-    (fits-below d anOpenOrder b refl (f .1), fits-below d aSubject c refl (f .2))
+    (fits-lt d anOpenOrder b refl (f .1), fits-lt d aSubject c refl (f .2))
