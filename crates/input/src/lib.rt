@@ -17,6 +17,8 @@ pub struct Reading {
     open: bool,
     // Whether there is a line: false at the end of the input.
     pub more: bool,
+    // Whether the input has ended: nothing is read after that, though a terminal could go on.
+    over: bool,
 }
 
 // Before the first line.
@@ -28,20 +30,23 @@ pub fn start() -> Reading {
         whole: true,
         open: false,
         more: true,
+        over: false,
     }
 }
 
-// The same place in the piece, with a line that starts.
+// The same place in the piece, with a line that starts, unless the input is over.
 fn opened(r: Reading) -> Reading
     ensures { λ o. ⌜ o .held ≤ 0 ⌝ }
 {
+    let over = r.over;
     Reading {
         at: r.at,
         end: r.end,
         held: 0,
         whole: true,
-        open: true,
-        more: true,
+        open: !over,
+        more: !over,
+        over,
     }
 }
 
@@ -61,6 +66,7 @@ fn take(text: &mut [u8], r: Reading, next: usize, byte: u8) -> Reading
             whole,
             open: false,
             more: true,
+            over: false,
         };
     }
     if held < text.len() {
@@ -72,6 +78,7 @@ fn take(text: &mut [u8], r: Reading, next: usize, byte: u8) -> Reading
             whole,
             open: true,
             more: true,
+            over: false,
         };
     }
     Reading {
@@ -81,6 +88,7 @@ fn take(text: &mut [u8], r: Reading, next: usize, byte: u8) -> Reading
         whole: false,
         open: true,
         more: true,
+        over: false,
     }
 }
 
@@ -100,6 +108,7 @@ fn refill(piece: &mut [u8], r: Reading) -> Reading
             whole,
             open: false,
             more: 0 < held,
+            over: true,
         };
     }
     Reading {
@@ -109,6 +118,7 @@ fn refill(piece: &mut [u8], r: Reading) -> Reading
         whole,
         open: true,
         more: true,
+        over: false,
     }
 }
 
