@@ -1,5 +1,6 @@
-# The rules bent where the source papers' slips bend them, one at a time: demand 3 must fail each time, at the law named here.
-# A must-fail edit of rt reaches its own crate alone, and these bend crate rules and are refused by crate demands.
+# The rules bent, one at a time, as the source papers and hasty programs bend them: each time the proofs must fail, at the law named
+# here. A must-fail edit of rt reaches its own crate alone; these bend crate rules and are refused by crate demands, the last one
+# already by the law of crate rules that says what the role group is.
 
 bent=$(mktemp -d)
 mkdir "$bent/crates"
@@ -23,11 +24,12 @@ refused() { # FILE OLD NEW LAW: with NEW for OLD in the file of crate rules, LAW
 bend() { # SENTENCE FILE OLD NEW LAW
     what=$1
     shift
-    holds "$what: demand 3 is refused at $4" refused "$@"
+    holds "$what: refused at $4" refused "$@"
 }
 
 (cd "$bent" && rt check) >"$bent/log" 2>&1
 holds "demand 3 is proved of the rules as they are" grep -q '^rt: ok' "$bent/log"
+bend "27 as 002 prints it, what a and b themselves exclude against the other's group" Numbers.antt 'between (d .row SME) (roleGroup d a) (roleGroup d b)' '(λ u v. between (d .row SME) (2 ^ a) (roleGroup d b) u v || between (d .row SME) (roleGroup d a) (2 ^ b) u v)' silent-sme-groups
 bend "27 only from the two tasks themselves" Numbers.antt '(d .row SME) (roleGroup d a) (roleGroup d b)' '(d .row SME) (2 ^ a) (2 ^ b)' silent-sme-groups
 bend "28 only from the two tasks themselves" Numbers.antt '(d .row DME) (subjectGroup d a) (subjectGroup d b)' '(d .row DME) (2 ^ a) (2 ^ b)' silent-dme-groups
 bend "31 without seniors" Numbers.antt '(λ o. ownsRole d (role o) b)' '(eqb b)' silent-task-assignment

@@ -1,6 +1,6 @@
 /*
- * An example controller: a code sequencer that has to be woken, a code list that has to be signed, and the rule that who wakes
- * never signs. It keeps the book in static memory, asks before it acts, and prints what it was told.
+ * An example controller: a code sequencer that has to be woken, a code list that has to be signed, and the rule that nobody may
+ * own both. It keeps the book in static memory, asks before it acts, and prints what it was told.
  * examples/controller/run builds it with the library and runs it; expected.txt has what it must print.
  */
 #include <stdint.h>
@@ -39,7 +39,7 @@ static void define_the_cell(void)
     for (uint64_t task = WAKE; task <= GAUGE; task++) accepted &= ask("define a task", DEFINE_TASK, task, 0, 0);
     for (uint64_t role = SEQUENCER; role <= BENCH; role++) accepted &= ask("define a role", DEFINE_ROLE, role, 0, 0);
     for (uint64_t subject = SEQUENCER; subject <= BENCH; subject++) accepted &= ask("define a subject", DEFINE_SUBJECT, subject, 0, 0);
-    accepted &= ask("who wakes never signs", SME, WAKE, SIGN, 0);
+    accepted &= ask("nobody owns both waking and signing", SME, WAKE, SIGN, 0);
     accepted &= ask("who cuts does not gauge in one order", DME, CUT, GAUGE, 0);
     accepted &= ask("the sequencer hand wakes", GIVE_TASK, WAKE, SEQUENCER, 0);
     accepted &= ask("the office signs", GIVE_TASK, SIGN, OFFICE, 0);

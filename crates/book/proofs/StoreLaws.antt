@@ -27,7 +27,8 @@ put-other w i v j n = ap (λ (s : Bool). elim s as (λ (x : Bool). ℕ) [ true �
 put-same : (w : ℕ → ℕ) (i v j : ℕ) → j ≡ i → put w i v j ≡ v
 put-same w i v j q = ap (λ (s : Bool). elim s as (λ (x : Bool). ℕ) [ true ↦ v | false ↦ w j ]) (eq-eqb j i q)
 
-only-same : (t : Bool) (x y : ℕ) → (t ≡ true → x ≡ y) → only t x ≡ only t y
+-- What is read under a test is the same where the two agree whenever the test holds.
+pub only-same : (t : Bool) (x y : ℕ) → (t ≡ true → x ≡ y) → only t x ≡ only t y
 only-same true x y f = f refl
 only-same false x y f = refl
 

@@ -11,7 +11,7 @@ use Rattle.book.specs.Slice.{tables}
 use Rattle.answers.specs.declared.Answer.{Answer}
 use Rattle.answers.specs.Answers.{said}
 
--- refusals 5 to 11 first, then the conflicts
+-- the refusals of the deed first (5 to 11; in kind 13 also 4), then the conflicts
 unfoldable pub decide : Book → Deed → ℕ → ℕ → ℕ → Said
 decide d k a b c = orElse (stateRefusal d k a b c) (firstOf (conflicts k) d a b c)
 

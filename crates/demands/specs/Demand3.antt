@@ -1,4 +1,5 @@
--- DEMAND 3 of document 01: the checks are exact. Three statements, each proved under its own name in proofs/Demand3.antt.
+-- DEMAND 3, the third of the demands made of the book: the checks are exact. Three statements, each proved under its own name in
+-- proofs/Demand3.antt.
 -- They speak of a lent slice of 4,676 words w, of the answer, the blind change and the audit as crate rules defines them.
 use mathlib.Core.Path.{_≡_}
 use mathlib.Core.Logic.{_↔_}

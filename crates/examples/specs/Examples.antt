@@ -1,4 +1,5 @@
 -- Document 01, "Numbers to check by": P1 to P14 as one computed table. Each "then" is the next step of a run.
+-- The runs go over tables; proofs/OnWords.antt shows that a step there is a step over the words.
 use mathlib.Core.Bool.{Bool, true, false, _&&_}
 use mathlib.Core.List.{List, [], _∷_}
 use Prim.Native.Nat.{ℕ, _+_}

@@ -1,5 +1,5 @@
 -- Document 01, "The audit": ten rules, each a test that computes, and the answer. It only reads.
--- proofs/AuditLaws.antt says of each rule what it stands for, over relations, and shows that the test holds exactly then.
+-- Meaning.antt says of each rule what it stands for, over relations; proofs/AuditLaws.antt shows that the test holds exactly then.
 use mathlib.Core.Bool.{Bool, true, false, _&&_, _||_, not}
 use mathlib.Core.List.{List, [], _∷_}
 use Prim.Native.Nat.{ℕ, suc, _+_, _-_, _/_, _%_}

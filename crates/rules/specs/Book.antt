@@ -1,5 +1,5 @@
 -- Document 01, "The words of the book": where each word lies, and what makes a word bad.
--- A book of words is read once into its tables; nothing above this file sees the place of a word.
+-- A book of words is read once into its tables; no rule above this file sees the place of a word.
 use mathlib.Core.Bool.{Bool, true, false, _&&_, _||_, not}
 use mathlib.Core.List.{List, [], _∷_}
 use Prim.Native.Nat.{ℕ, zero, suc, _+_, _-_, _*_, _/_, _%_}

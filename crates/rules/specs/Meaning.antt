@@ -1,5 +1,6 @@
 -- What the audit's tests stand for, over relations and in the document's words: a well-formed book that keeps the ten rules.
--- No mask is computed here. proofs/AuditLaws.antt shows that the audit answers 0 exactly of the sound books.
+-- Nothing is searched or closed here: rows are relations, groups are chains. proofs/AuditLaws.antt shows that the audit answers 0
+-- exactly of the sound books.
 -- The statements go over the tables that they read, so that a change to another table leaves them as they are.
 use mathlib.Core.Path.{_≡_}
 use mathlib.Core.Logic.{_⊎_}
@@ -9,7 +10,7 @@ use Rattle.chains.specs.Relation.{Relation, Subset, In, Step, Chain, Reaches}
 use Rattle.rules.specs.Book.{Book, tasks, roles, subjects, SME, DME, RB, SB, juniors, tasksOf, rolesOf, active, orders, roleIn, subjectIn}
 use Rattle.rules.specs.Trade.{Owner, role, subject}
 
--- Every word has 64 bits, and a table has 64 rows.
+-- Every row has 64 bits, a table has 64 rows, and there is no cell past order 63 or task 63.
 pub record Tall (rows : ℕ → ℕ) : Type 0 where
   pub fits : (i : ℕ) → rows i < 2 ^ 64
   pub ends : (i : ℕ) → 64 ≤ i → rows i ≡ 0

@@ -63,7 +63,7 @@ allocateRefusal d a b c =
     (given (not (eqb (roleIn (d .cell b a)) 0) && not (eqb (roleIn (d .cell b a)) (d .row active c))) (say 10 (roleIn (d .cell b a) - 1) 0)
     (givenLowest 11 (outside (roleHand d a b) (ownedTasks d (role (d .row active c - 1)))) accepted))))
 
--- 5 to 11, of a kind whose arguments fit
+-- 5 to 11, of a kind whose arguments fit; in kind 13 the second half of 4 comes first
 unfoldable pub stateRefusal : Book → Deed → ℕ → ℕ → ℕ → Said
 stateRefusal d nothing a b c = accepted
 stateRefusal d (define n) a b c = given (bit (d .head n) a) (say 5 0 0) accepted
@@ -191,7 +191,7 @@ pairConflicts =
     ∷ (selfConstraint ∷ alreadyDme ∷ alreadySme ∷ smeBetweenGroups ∷ dmeBetweenGroups ∷ [])
     ∷ []
 
--- 8: 31, 32. 9: 29, 30, 31, 32. 10: 32.
+-- 8: 31, 32. 9: 29, 30, 31, 32. 10: 32. Listed by the table that gets the bit: juniors (9), tasks of roles (8), roles of subjects (10).
 unfoldable pub assignConflicts : ℕ → List Conflict
 assignConflicts n =
     getD
@@ -213,7 +213,7 @@ conflicts allocate = heldSme ∷ heldDme ∷ []
 conflicts closeOrder = []
 conflicts (takeBack n) = []
 
--- the first that is given, in the order listed
+-- the first that is given, in the order listed; the rest is computed only where it is asked
 unfoldable pub firstOf : List Conflict → Book → ℕ → ℕ → ℕ → Said
 firstOf [] d a b c = accepted
 firstOf (f ∷ fs) d a b c = let rest = firstOf fs d a b c in f d a b c rest
