@@ -15,7 +15,7 @@ below d m = close 64 (d .row juniors) m
 unfoldable pub reach : Book → ℕ → ℕ
 reach d r = below d (d .row juniors r)
 
--- An owner is one who starts with a set of roles: a role with itself, a subject with its assigned roles.
+-- The roles that owners start with, by the owner's number: a role starts with itself, a subject with its assigned roles.
 abbrev pub Owner : Type 0
 Owner = ℕ → ℕ
 
