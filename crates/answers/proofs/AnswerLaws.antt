@@ -2,58 +2,61 @@
 use mathlib.Core.Path.{_≡_, refl, sym, ap, _∙_}
 use mathlib.Core.Bool.{true, false}
 use mathlib.Core.List.{List, [], _∷_}
-use Prim.Native.Nat.{ℕ, _-_}
+use Prim.Native.Nat.{_-_}
 use lib.Dec.{ltb}
 use lib.ListN.{getD}
-use Rattle.sets.proofs.Logic.{not-both}
-use Rattle.rules.specs.Numbers.{Said, accepted, say}
-use Rattle.answers.specs.Answers.{said, isAccepted}
+use Rattle.rules.specs.Numbers.{Named, Said, accepted, says, isAccepted}
+use Rattle.rules.proofs.SaidLaws.{accepted-out}
+use Rattle.answers.specs.Answers.{said}
 use Rattle.answers.specs.declared.Answer.{Answer}
-use Rattle.answers.specs.declared.Answer.the-variants.{Accepted, WrongLength, BadWord, UnknownKind, BadArgument, AlreadySet, NotThere, OrderOpen, NotOwned, HasSubject, HasRole, TaskNotOwned, SelfConstraint, AlreadyDme, AlreadySme, OneSubjectGroup, OneRoleGroup, RoleOwnsBoth, SubjectOwnsBoth, SmeBetween, DmeBetween, SelfInheritance, Cycle, TaskAssignment, RoleAssignment, HoldsSme, HoldsDme}
+use Rattle.answers.specs.declared.Answer.the-variants.{Accepted, WrongLength, BadWord, UnknownKind, BadArgument, AlreadySet, NotThere, OrderOpen}
+use Rattle.answers.specs.declared.Answer.the-variants.{NotOwned, HasSubject, HasRole, TaskNotOwned, SelfConstraint, AlreadyDme, AlreadySme}
+use Rattle.answers.specs.declared.Answer.the-variants.{OneSubjectGroup, OneRoleGroup, RoleOwnsBoth, SubjectOwnsBoth, SmeBetween, DmeBetween}
+use Rattle.answers.specs.declared.Answer.the-variants.{SelfInheritance, Cycle, TaskAssignment, RoleAssignment, HoldsSme, HoldsDme}
 
--- The refusals from number 1 on, given x and y.
-refusals : List (ℕ → ℕ → Answer)
+-- The refusals from number 1 on, given what they name.
+refusals : List (Named → Answer)
 refusals =
-    (λ x y. WrongLength)
-    ∷ (λ x y. BadWord x)
-    ∷ (λ x y. UnknownKind)
-    ∷ (λ x y. BadArgument x)
-    ∷ (λ x y. AlreadySet)
-    ∷ (λ x y. NotThere)
-    ∷ (λ x y. OrderOpen x)
-    ∷ (λ x y. NotOwned)
-    ∷ (λ x y. HasSubject x)
-    ∷ (λ x y. HasRole x)
-    ∷ (λ x y. TaskNotOwned x)
+    (λ r. WrongLength)
+    ∷ (λ r. BadWord (r .x))
+    ∷ (λ r. UnknownKind)
+    ∷ (λ r. BadArgument (r .x))
+    ∷ (λ r. AlreadySet)
+    ∷ (λ r. NotThere)
+    ∷ (λ r. OrderOpen (r .x))
+    ∷ (λ r. NotOwned)
+    ∷ (λ r. HasSubject (r .x))
+    ∷ (λ r. HasRole (r .x))
+    ∷ (λ r. TaskNotOwned (r .x))
     ∷ []
 
 -- The conflicts from number 20 on, likewise.
-conflicts : List (ℕ → ℕ → Answer)
+conflicts : List (Named → Answer)
 conflicts =
-    (λ x y. SelfConstraint)
-    ∷ (λ x y. AlreadyDme)
-    ∷ (λ x y. AlreadySme)
-    ∷ (λ x y. OneSubjectGroup)
-    ∷ (λ x y. OneRoleGroup)
-    ∷ (λ x y. RoleOwnsBoth x)
-    ∷ (λ x y. SubjectOwnsBoth x)
-    ∷ SmeBetween
-    ∷ DmeBetween
-    ∷ (λ x y. SelfInheritance)
-    ∷ (λ x y. Cycle)
-    ∷ TaskAssignment
-    ∷ RoleAssignment
-    ∷ HoldsSme
-    ∷ HoldsDme
+    (λ r. SelfConstraint)
+    ∷ (λ r. AlreadyDme)
+    ∷ (λ r. AlreadySme)
+    ∷ (λ r. OneSubjectGroup)
+    ∷ (λ r. OneRoleGroup)
+    ∷ (λ r. RoleOwnsBoth (r .x))
+    ∷ (λ r. SubjectOwnsBoth (r .x))
+    ∷ (λ r. SmeBetween (r .x) (r .y))
+    ∷ (λ r. DmeBetween (r .x) (r .y))
+    ∷ (λ r. SelfInheritance)
+    ∷ (λ r. Cycle)
+    ∷ (λ r. TaskAssignment (r .x) (r .y))
+    ∷ (λ r. RoleAssignment (r .x) (r .y))
+    ∷ (λ r. HoldsSme (r .x) (r .y))
+    ∷ (λ r. HoldsDme (r .x) (r .y))
     ∷ []
 
 -- The case that is said so.
 answerOf : Said → Answer
 unfolding refusals conflicts
 answerOf accepted = Accepted
-answerOf (say n x y) =
-    let case : ℕ → ℕ → Answer = elim (ltb n 20) [ true ↦ getD refusals (n - 1) (λ x y. Accepted) | false ↦ getD conflicts (n - 20) (λ x y. Accepted) ] in
-    case x y
+answerOf (says n r) =
+    let case : Named → Answer = elim (ltb n 20) [ true ↦ getD refusals (n - 1) (λ r. Accepted) | false ↦ getD conflicts (n - 20) (λ r. Accepted) ] in
+    case r
 
 -- Each case is found again by what is said.
 back : (p : Answer) → answerOf (said p) ≡ p
@@ -89,11 +92,6 @@ back (HoldsDme x y) = refl
 -- Two answers that are said alike are one.
 pub said-injective : (p q : Answer) → said p ≡ said q → p ≡ q
 said-injective p q e = sym (back p) ∙ ap answerOf e ∙ back q
-
--- What counts as accepted is 0.
-pub accepted-out : (s : Said) → isAccepted s ≡ true → s ≡ accepted
-accepted-out accepted e = refl
-accepted-out (say n x y) e = absurd (not-both false e refl)
 
 -- Only one case is said so.
 pub accepted-only : (p : Answer) → isAccepted (said p) ≡ true → p ≡ Accepted

@@ -1,6 +1,6 @@
--- An answer of the rules as the three numbers that leave the program.
-use Rattle.rules.specs.Numbers.{Said, numberOf, xOf, yOf}
+-- An answer of the rules as the numbers that leave the program.
+use Rattle.rules.specs.Numbers.{Said, numberOf, namedBy}
 use Rattle.answers.specs.declared.Reply.{Reply}
 
-abbrev pub written : Said → Reply
-written s = record { number = numberOf s; x = xOf s; y = yOf s }
+abbrev pub replyOf : Said → Reply
+replyOf s = record { number = numberOf s; x = namedBy s .x; y = namedBy s .y }

@@ -1,9 +1,10 @@
 // What comes back: a case for each number of document 01, and the audit's finding likewise.
 // specs/Answers.antt and specs/Findings.antt give the document's number, x and y of each case.
 ghost use mathlib.Core.Path.{_≡_};
-ghost use Rattle.answers.specs.Answers.{said, isAccepted};
+ghost use Rattle.rules.specs.Numbers.{say, sayX, sayXY, isAccepted};
+ghost use Rattle.answers.specs.Answers.{said};
 ghost use Rattle.answers.specs.Findings.{found};
-ghost use Rattle.answers.specs.Replies.{written};
+ghost use Rattle.answers.specs.Replies.{replyOf};
 
 // The answer to a request.
 pub enum Answer {
@@ -51,44 +52,57 @@ pub struct Reply {
     pub y: u64,
 }
 
-fn say(number: u64, x: u64, y: u64) -> Reply
-    ensures { λ reply. ⌜ reply ≡ record { number = number; x = x; y = y } ⌝ }
+// A number with nothing beside it, with x, and with x and y.
+fn say(number: u64) -> Reply
+    ensures { λ reply. ⌜ reply ≡ replyOf (say number) ⌝ }
+{
+    Reply { number, x: 0, y: 0 }
+}
+
+fn say_x(number: u64, x: u64) -> Reply
+    ensures { λ reply. ⌜ reply ≡ replyOf (sayX number x) ⌝ }
+{
+    Reply { number, x, y: 0 }
+}
+
+fn say_xy(number: u64, x: u64, y: u64) -> Reply
+    ensures { λ reply. ⌜ reply ≡ replyOf (sayXY number x y) ⌝ }
 {
     Reply { number, x, y }
 }
 
 // The number, x and y of an answer.
 pub fn told(answer: Answer) -> Reply
-    ensures { λ reply. ⌜ reply ≡ written (said answer) ⌝ }
+    ensures { λ reply. ⌜ reply ≡ replyOf (said answer) ⌝ }
 {
     match answer {
-        Answer::Accepted => say(0, 0, 0),
-        Answer::WrongLength => say(1, 0, 0),
-        Answer::BadWord(i) => say(2, i, 0),
-        Answer::UnknownKind => say(3, 0, 0),
-        Answer::BadArgument(place) => say(4, place, 0),
-        Answer::AlreadySet => say(5, 0, 0),
-        Answer::NotThere => say(6, 0, 0),
-        Answer::OrderOpen(order) => say(7, order, 0),
-        Answer::NotOwned => say(8, 0, 0),
-        Answer::HasSubject(subject) => say(9, subject, 0),
-        Answer::HasRole(role) => say(10, role, 0),
-        Answer::TaskNotOwned(task) => say(11, task, 0),
-        Answer::SelfConstraint => say(20, 0, 0),
-        Answer::AlreadyDme => say(21, 0, 0),
-        Answer::AlreadySme => say(22, 0, 0),
-        Answer::OneSubjectGroup => say(23, 0, 0),
-        Answer::OneRoleGroup => say(24, 0, 0),
-        Answer::RoleOwnsBoth(role) => say(25, role, 0),
-        Answer::SubjectOwnsBoth(subject) => say(26, subject, 0),
-        Answer::SmeBetween(x, y) => say(27, x, y),
-        Answer::DmeBetween(x, y) => say(28, x, y),
-        Answer::SelfInheritance => say(29, 0, 0),
-        Answer::Cycle => say(30, 0, 0),
-        Answer::TaskAssignment(role, task) => say(31, role, task),
-        Answer::RoleAssignment(subject, task) => say(32, subject, task),
-        Answer::HoldsSme(x, y) => say(33, x, y),
-        Answer::HoldsDme(x, y) => say(34, x, y),
+        Answer::Accepted => say(0),
+        Answer::WrongLength => say(1),
+        Answer::BadWord(i) => say_x(2, i),
+        Answer::UnknownKind => say(3),
+        Answer::BadArgument(place) => say_x(4, place),
+        Answer::AlreadySet => say(5),
+        Answer::NotThere => say(6),
+        Answer::OrderOpen(order) => say_x(7, order),
+        Answer::NotOwned => say(8),
+        Answer::HasSubject(subject) => say_x(9, subject),
+        Answer::HasRole(role) => say_x(10, role),
+        Answer::TaskNotOwned(task) => say_x(11, task),
+        Answer::SelfConstraint => say(20),
+        Answer::AlreadyDme => say(21),
+        Answer::AlreadySme => say(22),
+        Answer::OneSubjectGroup => say(23),
+        Answer::OneRoleGroup => say(24),
+        Answer::RoleOwnsBoth(role) => say_x(25, role),
+        Answer::SubjectOwnsBoth(subject) => say_x(26, subject),
+        Answer::SmeBetween(x, y) => say_xy(27, x, y),
+        Answer::DmeBetween(x, y) => say_xy(28, x, y),
+        Answer::SelfInheritance => say(29),
+        Answer::Cycle => say(30),
+        Answer::TaskAssignment(role, task) => say_xy(31, role, task),
+        Answer::RoleAssignment(subject, task) => say_xy(32, subject, task),
+        Answer::HoldsSme(x, y) => say_xy(33, x, y),
+        Answer::HoldsDme(x, y) => say_xy(34, x, y),
     }
 }
 
@@ -104,12 +118,12 @@ pub fn is_accepted(answer: Answer) -> bool
 
 // The number, x and y of a finding.
 pub fn told_finding(finding: Finding) -> Reply
-    ensures { λ reply. ⌜ reply ≡ written (found finding) ⌝ }
+    ensures { λ reply. ⌜ reply ≡ replyOf (found finding) ⌝ }
 {
     match finding {
-        Finding::Sound => say(0, 0, 0),
-        Finding::WrongLength => say(1, 0, 0),
-        Finding::BadWord(i) => say(2, i, 0),
-        Finding::Broken(rule) => say(40 + rule as u64, 0, 0),
+        Finding::Sound => say(0),
+        Finding::WrongLength => say(1),
+        Finding::BadWord(i) => say_x(2, i),
+        Finding::Broken(rule) => say(40 + rule as u64),
     }
 }

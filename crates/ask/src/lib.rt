@@ -3,11 +3,10 @@ ghost use mathlib.Core.Path.{_≡_};
 ghost use mathlib.Core.Bool.{_&&_, not};
 ghost use Prim.Native.Nat.{_<_};
 ghost use lib.Dec.{ltb, eqb};
-ghost use lib.ListN.{length};
 ghost use Rattle.sets.specs.Mask.{bit, within};
-ghost use Rattle.rules.specs.Book.{tasks};
+ghost use Rattle.rules.specs.Book.{headWords, tasks};
 ghost use Rattle.rules.specs.Requests.{rowOf, fits, isOpen};
-ghost use Rattle.book.specs.Slice.{tables};
+ghost use Rattle.book.specs.Slice.{tables, Full};
 ghost use Rattle.ask.specs.Arguments.{needOf, asked, faultOf};
 
 // What an argument must be.
@@ -24,8 +23,11 @@ pub enum Argument {
 // What a, b and c must be.
 pub struct Row(pub Argument, pub Argument, pub Argument);
 
+// Row 0, and one for each kind.
+const ROWS: usize = 18;
+
 // By kind: the one fixed table of seventeen rows, after row 0, which is no kind.
-const TABLE: [Row; 18] = [
+const TABLE: [Row; ROWS] = [
     Row(Argument::Unused, Argument::Unused, Argument::Unused), // no kind
     Row(Argument::InRange, Argument::Unused, Argument::Unused), // 1
     Row(Argument::InRange, Argument::Unused, Argument::Unused), // 2
@@ -46,17 +48,17 @@ const TABLE: [Row; 18] = [
     Row(Argument::Role, Argument::Subject, Argument::Unused), // 17
 ];
 
-// The row of a kind.
+// The row of a kind; what is no kind asks for nothing.
 fn row_of(kind: u64) -> Row
-    requires { ⌜ kind < 18 ⌝ }
     ensures { λ r. ⌜ r ≡ asked (rowOf kind) ⌝ }
 {
-    TABLE[kind as usize]
+    let i = kind as usize;
+    if i < ROWS { TABLE[i] } else { TABLE[0] }
 }
 
 // Whether v is a defined task, role or subject, by the word of the head.
 fn is_defined(book: &[u64], things: u64, v: u64) -> bool
-    requires { ⌜ (length (now book) ≡ 4676) × (things < 4) ⌝ }
+    requires { ⌜ Full (now book) × (things < headWords) ⌝ }
     ensures { λ r. ⌜ r ≡ (ltb v 64 && bit ((tables (now (book .entry))) .head things) v) ⌝ }
 {
     if v < 64 {
@@ -68,7 +70,7 @@ fn is_defined(book: &[u64], things: u64, v: u64) -> bool
 
 // Whether v is an open order.
 fn is_open_order(book: &[u64], v: u64) -> bool
-    requires { ⌜ length (now book) ≡ 4676 ⌝ }
+    requires { ⌜ Full (now book) ⌝ }
     ensures { λ r. ⌜ r ≡ (ltb v 64 && isOpen (tables (now (book .entry))) v) ⌝ }
 {
     if v < 64 {
@@ -80,7 +82,7 @@ fn is_open_order(book: &[u64], v: u64) -> bool
 
 // Whether v is a nonempty mask of defined tasks.
 fn is_task_mask(book: &[u64], v: u64) -> bool
-    requires { ⌜ length (now book) ≡ 4676 ⌝ }
+    requires { ⌜ Full (now book) ⌝ }
     ensures { λ r. ⌜ r ≡ (not (eqb v 0) && within v (tasks (tables (now (book .entry))))) ⌝ }
 {
     (v != 0) & sets::inside(v, book::head(book, book::TASKS))
@@ -88,7 +90,7 @@ fn is_task_mask(book: &[u64], v: u64) -> bool
 
 // Whether v is what it must be.
 fn is_fit(book: &[u64], argument: Argument, v: u64) -> bool
-    requires { ⌜ length (now book) ≡ 4676 ⌝ }
+    requires { ⌜ Full (now book) ⌝ }
     ensures { λ r. ⌜ r ≡ fits (tables (now (book .entry))) (needOf argument) v ⌝ }
 {
     match argument {
@@ -104,7 +106,7 @@ fn is_fit(book: &[u64], argument: Argument, v: u64) -> bool
 
 // The first argument at fault, 1, 2 or 3; 0 where none is.
 pub fn argument_fault(book: &[u64], kind: u64, a: u64, b: u64, c: u64) -> u64
-    requires { ⌜ (length (now book) ≡ 4676) × (kind < 18) ⌝ }
+    requires { ⌜ Full (now book) ⌝ }
     ensures { λ r. ⌜ r ≡ faultOf (tables (now (book .entry))) (rowOf kind) a b c ⌝ }
 {
     let row = row_of(kind);

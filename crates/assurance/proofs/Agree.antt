@@ -1,15 +1,15 @@
--- The rules look at the 4,676 words of a book and at nothing past them: words that agree there have the same tables,
+-- The rules look at the words of a book and at nothing past them: words that agree there have the same tables,
 -- so the same answer, the same audit, and words afterwards that agree again.
 use mathlib.Core.Path.{_≡_, ap}
 use mathlib.Core.Bool.{true, false, _&&_}
-use Prim.Native.Nat.{ℕ, _+_, _*_, _<_}
+use Prim.Native.Nat.{ℕ, _+_, _*_, _≤_, _<_}
 use native.Mathlib.Omega.{arith}
 use lib.Dec.{ltb}
 use borrow.Author.Tests.{ltb-true}
 use Rattle.sets.proofs.Logic.{and-out}
-use Rattle.rules.specs.Book.{Book, bookWords, read, write}
+use Rattle.rules.specs.Book.{Book, bookWords, headWords, tableCount, cellsAt, read, write}
 use Rattle.rules.specs.Requests.{Request}
-use Rattle.rules.specs.Numbers.{Said, accepted, say, judge, given, blind, answer, wordsAfter}
+use Rattle.rules.specs.Numbers.{Said, accepted, says, say, judge, given, blind, answer, wordsAfter}
 use Rattle.rules.specs.Audit.{audit, audited}
 use Rattle.rules.proofs.BookLaws.{book-ext}
 use Rattle.book.proofs.StoreLaws.{only-same}
@@ -22,11 +22,11 @@ module _ {v w : ℕ → ℕ} (same : Agree v w) where
   pub agree-read : read v ≡ read w
   unfolding read
   agree-read = book-ext _ _
-      (λ i. only-same (ltb i 4) _ _ (λ e. let h = ltb-true i 4 e in same i (omega arith)))
-      (λ n r. only-same (ltb n 9 && ltb r 64) _ _ (λ e. place 4 9 n r e (omega arith)))
-      (λ p t. only-same (ltb p 64 && ltb t 64) _ _ (λ e. place 580 64 p t e (omega arith)))
+      (λ i. only-same (ltb i headWords) _ _ (λ e. let h = ltb-true i headWords e in same i (omega arith)))
+      (λ n r. only-same (ltb n tableCount && ltb r 64) _ _ (λ e. place headWords tableCount n r e (omega arith)))
+      (λ p t. only-same (ltb p 64 && ltb t 64) _ _ (λ e. place cellsAt 64 p t e (omega arith)))
     where
-      place : (from rows n r : ℕ) → (ltb n rows && ltb r 64) ≡ true → from + 64 * rows < bookWords + 1 → v (from + 64 * n + r) ≡ w (from + 64 * n + r)
+      place : (from rows n r : ℕ) → (ltb n rows && ltb r 64) ≡ true → from + 64 * rows ≤ bookWords → v (from + 64 * n + r) ≡ w (from + 64 * n + r)
       place from rows n r e fits =
           let s = and-out (ltb n rows) (ltb r 64) e in
           let h = ltb-true n rows (s .0) in
@@ -35,13 +35,13 @@ module _ {v w : ℕ → ℕ} (same : Agree v w) where
 
   pub agree-answer : (q : Request) → answer bookWords v q ≡ answer bookWords w q
   unfolding answer
-  agree-answer q = ap (λ (d : Book). given false (say 1 0 0) (judge d q)) agree-read
+  agree-answer q = ap (λ (d : Book). given false (say 1) (judge d q)) agree-read
 
   pub agree-audited : audited bookWords v ≡ audited bookWords w
   unfolding audited
-  agree-audited = ap (λ (d : Book). given false (say 1 0 0) (audit d)) agree-read
+  agree-audited = ap (λ (d : Book). given false (say 1) (audit d)) agree-read
 
   pub agree-after : (s : Said) (q : Request) → Agree (wordsAfter s v q) (wordsAfter s w q)
   unfolding wordsAfter
   agree-after accepted q i h = ap (λ (d : Book). write (blind d q) i) agree-read
-  agree-after (say n x y) q i h = same i h
+  agree-after (says n r) q i h = same i h

@@ -1,34 +1,32 @@
--- Every slice that the request entry has served from 4,676 zeros is found sound by the audit entry.
+-- Every slice that was served from zeros is found sound, by the entries and by the C functions over them.
 -- The idea: such a slice agrees, word by word, with a book that demand 3 calls reached; the audit looks at no other words.
-use mathlib.Core.Path.{_≡_, refl, sym, ap, _∙_, subst}
+use mathlib.Core.Path.{_≡_, ap, _∙_}
 use mathlib.Core.List.{List}
-use Prim.Native.Nat.{ℕ, _<_}
+use Prim.Native.Nat.{ℕ}
 use native.Mathlib.Omega.{arith}
 use lib.ListN.{length}
 use Rattle.rules.specs.Book.{bookWords}
 use Rattle.rules.specs.Requests.{Request}
 use Rattle.rules.specs.Numbers.{Said, accepted, answer, wordsAfter}
 use Rattle.rules.specs.Audit.{audited}
-use Rattle.book.specs.Slice.{words}
-use Rattle.answers.specs.declared.Answer.{Answer}
-use Rattle.answers.specs.declared.Finding.{Finding}
+use Rattle.book.specs.Slice.{words, Full}
 use Rattle.answers.specs.declared.Finding.the-variants.{Sound}
-use Rattle.answers.specs.Findings.{found}
+use Rattle.desk.specs.Guarantee.{Stored}
 use Rattle.audit.proofs.OneFinding.{found-injective}
-use Rattle.desk.specs.Guarantee.{Answered}
+use Rattle.towerplank.specs.Told.{fourWords}
 use Rattle.demands.specs.Demand3.{Reached, kept}
 use Rattle.demands.proofs.Demand3.{reached-passes}
-use Rattle.assurance.specs.Served.{Served, ServedSound, blank, then}
+use Rattle.assurance.specs.Served.{Served, blank, then, ByEntry, ByC, ServedSound, ServedSoundC}
 use Rattle.assurance.proofs.Agree.{Agree, agree-answer, agree-audited, agree-after}
 
--- the slice has 4,676 words, and they are those of a book that requests have reached
+-- the slice is full, and its words are those of a book that requests have reached
 record Like (l : List ℕ) : Type 0 where
   book : ℕ → ℕ
   reached : Reached book
-  full : length l ≡ 4676
+  full : Full l
   same : Agree (words l) book
 
-like-after : {before after : List ℕ} {q : Request} {r : Answer} → Like before → Answered before after q r → Like after
+like-after : {before after : List ℕ} {q : Request} → Like before → Stored before after q → Like after
 like-after {before} {after} {q} b o = record {
   book = kept (b .book) q;
   reached = Reached.then q (b .reached);
@@ -40,11 +38,26 @@ like-after {before} {after} {q} b o = record {
       ∙ agree-after (b .same) (answer bookWords (b .book) q) q i h;
 }
 
-served-like : {l : List ℕ} → Served l → Like l
-served-like (blank full zeros) = record { book = λ i. 0; reached = Reached.blank; full = full; same = zeros }
-served-like (then s o) = like-after (served-like s) o
+-- Whoever serves and stores so leaves such a slice.
+served-like : {Serves : List ℕ → List ℕ → Type 0} → ((before after : List ℕ) → Serves before after → (q : Request) × Stored before after q)
+    → {l : List ℕ} → Served Serves l → Like l
+served-like stores (blank full zeros) = record { book = λ i. 0; reached = Reached.blank; full = full; same = zeros }
+served-like stores (then {before = b} {after = a} s o) = like-after (served-like stores s) (stores b a o .1)
 
+-- Of such a slice the audit answers 0.
+like-audited : {l : List ℕ} → Like l → audited (length l) (words l) ≡ accepted
+like-audited {l} b = ap (λ (n : ℕ). audited n (words l)) (b .full) ∙ agree-audited (b .same) ∙ reached-passes (b .book) (b .reached)
+
+-- STATEMENT 1: the entries.
 pub served-sound : ServedSound
-served-sound l s f e =
-    let b = served-like s in
-    found-injective f Sound (e ∙ ap (λ (n : ℕ). audited n (words l)) (b .full) ∙ agree-audited (b .same) ∙ reached-passes (b .book) (b .reached))
+served-sound l s f e = found-injective f Sound (e ∙ like-audited (served-like stores s))
+  where
+    stores : (before after : List ℕ) → ByEntry before after → (q : Request) × Stored before after q
+    stores before after (q, r, o) = (q, o .stored)
+
+-- STATEMENT 2: the C functions.
+pub served-sound-c : ServedSoundC
+served-sound-c l s four e = e ∙ ap fourWords (like-audited (served-like stores s))
+  where
+    stores : (before after : List ℕ) → ByC before after → (q : Request) × Stored before after q
+    stores before after (q, told, o) = (q, o .stored)

@@ -1,23 +1,35 @@
--- What a user may rely on, of the slices that the two entries really get: demand 3 carried to the code's own guarantees.
--- proofs/Served.antt shows it from the third statement of demand 3.
+-- What a user may rely on, of the slices that the entries really get: demand 3 carried to the guarantees of the code.
+-- proofs/ServedSound.antt shows both statements from the third statement of demand 3.
 use mathlib.Core.Path.{_≡_}
-use mathlib.Core.List.{List}
+use mathlib.Core.List.{List, [], _∷_}
 use Prim.Native.Nat.{ℕ, _<_}
-use lib.ListN.{length}
+use Rattle.rules.specs.Book.{bookWords}
 use Rattle.rules.specs.Requests.{Request}
-use Rattle.rules.specs.Audit.{audited}
-use Rattle.book.specs.Slice.{words}
+use Rattle.book.specs.Slice.{words, Full}
 use Rattle.answers.specs.declared.Answer.{Answer}
 use Rattle.answers.specs.declared.Finding.{Finding}
 use Rattle.answers.specs.declared.Finding.the-variants.{Sound}
-use Rattle.answers.specs.Findings.{found}
 use Rattle.desk.specs.Guarantee.{Answered}
+use Rattle.audit.specs.Guarantee.{Finds}
+use Rattle.towerplank.specs.Told.{Told, ToldAudit}
 
--- a slice of 4,676 zeros, served by the request entry any number of times, whatever was asked and answered
-pub data Served : List ℕ → Type 0 where
-  blank : {l : List ℕ} → length l ≡ 4676 → ((i : ℕ) → i < 4676 → words l i ≡ 0) → Served l
-  then : {before after : List ℕ} {q : Request} {r : Answer} → Served before → Answered before after q r → Served after
+-- a full slice of zeros, served any number of times
+pub data Served (Serves : List ℕ → List ℕ → Type 0) : List ℕ → Type 0 where
+  blank : {l : List ℕ} → Full l → ((i : ℕ) → i < bookWords → words l i ≡ 0) → Served Serves l
+  then : {before after : List ℕ} → Served Serves before → Serves before after → Served Serves after
 
--- The audit entry finds every such slice sound: no other finding meets its guarantee.
+-- The request entry served it, whatever was asked and answered ..
+abbrev pub ByEntry : List ℕ → List ℕ → Type 0
+ByEntry before after = (q : Request) × (r : Answer) × Answered before after q r
+
+-- .. or the C function did.
+abbrev pub ByC : List ℕ → List ℕ → Type 0
+ByC before after = (q : Request) × (four : List ℕ) × Told before after q four
+
+-- 1. The audit entry finds every slice that the request entry has served sound: no other finding meets its guarantee.
 abbrev pub ServedSound : Type 0
-ServedSound = (l : List ℕ) → Served l → (f : Finding) → found f ≡ audited (length l) (words l) → f ≡ Sound
+ServedSound = (l : List ℕ) → Served ByEntry l → (f : Finding) → Finds l f → f ≡ Sound
+
+-- 2. The same of the two C functions: the audit tells four zeros.
+abbrev pub ServedSoundC : Type 0
+ServedSoundC = (l : List ℕ) → Served ByC l → (four : List ℕ) → ToldAudit l four → four ≡ 0 ∷ 0 ∷ 0 ∷ 0 ∷ []

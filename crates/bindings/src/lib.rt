@@ -4,17 +4,14 @@ use search::Found;
 ghost use mathlib.Core.Path.{_≡_};
 ghost use mathlib.Core.List.{[], _∷_};
 ghost use Prim.Native.Nat.{_<_};
-ghost use lib.ListN.{length};
-ghost use Rattle.rules.specs.Book.{RB, SB};
-ghost use Rattle.rules.specs.Requests.{relate};
-ghost use Rattle.rules.specs.Numbers.{smeBetweenGroups, dmeBetweenGroups, conflicts, firstOf};
-ghost use Rattle.book.specs.Slice.{tables};
+ghost use Rattle.rules.specs.Numbers.{smeBetweenGroups, dmeBetweenGroups, rbConflicts, sbConflicts, firstOf};
+ghost use Rattle.book.specs.Slice.{tables, Full};
 ghost use Rattle.answers.specs.Answers.{said};
 
 // 27: SME between the role groups of a and b.
 fn sme_between(book: &[u64], a: u64, b: u64) -> Answer
-    requires { ⌜ (length (now book) ≡ 4676) × (a < 64) × (b < 64) ⌝ }
-    ensures { λ r. ⌜ said r ≡ firstOf (smeBetweenGroups ∷ []) (tables (now (book .entry))) a b 0 ⌝ }
+    requires { ⌜ Full (now book) × (a < 64) × (b < 64) ⌝ }
+    ensures { λ r. ⌜ said r ≡ firstOf (smeBetweenGroups ∷ []) (tables (now (book .entry))) a b ⌝ }
 {
     let found = search::first_pair(
         book,
@@ -30,8 +27,8 @@ fn sme_between(book: &[u64], a: u64, b: u64) -> Answer
 
 // 28: DME between the subject groups of a and b.
 fn dme_between(book: &[u64], a: u64, b: u64) -> Answer
-    requires { ⌜ (length (now book) ≡ 4676) × (a < 64) × (b < 64) ⌝ }
-    ensures { λ r. ⌜ said r ≡ firstOf (dmeBetweenGroups ∷ []) (tables (now (book .entry))) a b 0 ⌝ }
+    requires { ⌜ Full (now book) × (a < 64) × (b < 64) ⌝ }
+    ensures { λ r. ⌜ said r ≡ firstOf (dmeBetweenGroups ∷ []) (tables (now (book .entry))) a b ⌝ }
 {
     let found = search::first_pair(
         book,
@@ -47,13 +44,13 @@ fn dme_between(book: &[u64], a: u64, b: u64) -> Answer
 
 // Kind 6: 20, 22, 27.
 pub fn rb_conflict(book: &[u64], a: u64, b: u64) -> Answer
-    requires { ⌜ (length (now book) ≡ 4676) × (a < 64) × (b < 64) ⌝ }
-    ensures { λ r. ⌜ said r ≡ firstOf (conflicts (relate RB)) (tables (now (book .entry))) a b 0 ⌝ }
+    requires { ⌜ Full (now book) × (a < 64) × (b < 64) ⌝ }
+    ensures { λ r. ⌜ said r ≡ firstOf rbConflicts (tables (now (book .entry))) a b ⌝ }
 {
     if a == b {
         return Answer::SelfConstraint;
     }
-    if sets::has(book::row(book, book::SME, a), b) {
+    if book::is_in_row(book, book::SME, a, b) {
         return Answer::AlreadySme;
     }
     sme_between(book, a, b)
@@ -61,16 +58,16 @@ pub fn rb_conflict(book: &[u64], a: u64, b: u64) -> Answer
 
 // Kind 7: 20, 21, 22, 27, 28.
 pub fn sb_conflict(book: &[u64], a: u64, b: u64) -> Answer
-    requires { ⌜ (length (now book) ≡ 4676) × (a < 64) × (b < 64) ⌝ }
-    ensures { λ r. ⌜ said r ≡ firstOf (conflicts (relate SB)) (tables (now (book .entry))) a b 0 ⌝ }
+    requires { ⌜ Full (now book) × (a < 64) × (b < 64) ⌝ }
+    ensures { λ r. ⌜ said r ≡ firstOf sbConflicts (tables (now (book .entry))) a b ⌝ }
 {
     if a == b {
         return Answer::SelfConstraint;
     }
-    if sets::has(book::row(book, book::DME, a), b) {
+    if book::is_in_row(book, book::DME, a, b) {
         return Answer::AlreadyDme;
     }
-    if sets::has(book::row(book, book::SME, a), b) {
+    if book::is_in_row(book, book::SME, a, b) {
         return Answer::AlreadySme;
     }
     let sme = sme_between(book, a, b);

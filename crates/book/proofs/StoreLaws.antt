@@ -12,10 +12,10 @@ use borrow.Author.Tests.{eqb-true, eqb-false, eq-eqb, ne-eqb, ltb-true, lt-ltb}
 use Rattle.sets.specs.Mask.{only}
 use Rattle.sets.proofs.Logic.{and-out, and-in, not-both}
 use Rattle.sets.proofs.MaskLaws.{only-yes}
-use Rattle.rules.specs.Book.{Book, read}
-use Rattle.rules.specs.Requests.{setRow, setHead, setTable}
+use Rattle.rules.specs.Book.{Book, headWords, tableCount, cellsAt, tableAt, read}
+use Rattle.rules.specs.Requests.{setRow, setTable}
 use Rattle.rules.proofs.BookLaws.{book-ext}
-use Rattle.book.specs.Slice.{words, tables, setCell}
+use Rattle.book.specs.Slice.{words, tables, Full, withHead, withRow, withCell}
 
 -- One word stored.
 abbrev pub put : (ℕ → ℕ) → ℕ → ℕ → ℕ → ℕ
@@ -39,43 +39,46 @@ read-after w t g i v true f n = only-yes t _ (f refl .0) ∙ put-same w i v g (f
 read-after w t g i v false f n = only-same t _ _ (λ e. put-other w i v g (n refl e))
 
 -- A word of the head.
-pub put-head : (w : ℕ → ℕ) (i v : ℕ) → i < 4 → read (put w i v) ≡ setHead (read w) (setRow ((read w) .head) i v)
+pub put-head : (w : ℕ → ℕ) (i v : ℕ) → i < headWords → read (put w i v) ≡ withHead i v (read w)
 unfolding read setRow
 put-head w i v h = book-ext _ _
-    (λ j. read-after w (ltb j 4) j i v (eqb j i) (λ e. let q = eqb-true j i e in (lt-ltb j 4 (omega arith), q)) (λ e l. eqb-false j i e))
-    (λ n r. only-same (ltb n 9 && ltb r 64) _ _ (λ e. put-other w i v (4 + 64 * n + r) (λ z. omega arith)))
-    (λ p t. only-same (ltb p 64 && ltb t 64) _ _ (λ e. put-other w i v (580 + 64 * p + t) (λ z. omega arith)))
+    (λ j. read-after w (ltb j headWords) j i v (eqb j i) (λ e. let q = eqb-true j i e in (lt-ltb j headWords (omega arith), q)) (λ e l. eqb-false j i e))
+    (λ n r. only-same (ltb n tableCount && ltb r 64) _ _ (λ e. put-other w i v (tableAt n + r) (λ z. omega arith)))
+    (λ p t. only-same (ltb p 64 && ltb t 64) _ _ (λ e. put-other w i v (cellsAt + 64 * p + t) (λ z. omega arith)))
 
 -- A row of a table.
-pub put-row : (w : ℕ → ℕ) (n r v : ℕ) → n < 9 → r < 64 → read (put w (4 + 64 * n + r) v) ≡ setTable (read w) n (setRow ((read w) .row n) r v)
+pub put-row : (w : ℕ → ℕ) (n r v : ℕ) → n < tableCount → r < 64 → read (put w (tableAt n + r) v) ≡ withRow n r v (read w)
 unfolding read setRow
 put-row w n r v hn hr = book-ext _ _
-    (λ j. only-same (ltb j 4) _ _ (λ e. let l = ltb-true j 4 e in put-other w (4 + 64 * n + r) v j (λ z. omega arith)))
+    (λ j. only-same (ltb j headWords) _ _ (λ e. let l = ltb-true j headWords e in put-other w (tableAt n + r) v j (λ z. omega arith)))
     (λ m s. row m s (eqb m n) refl)
-    (λ p t. only-same (ltb p 64 && ltb t 64) _ _ (λ e. put-other w (4 + 64 * n + r) v (580 + 64 * p + t) (λ z. omega arith)))
+    (λ p t. only-same (ltb p 64 && ltb t 64) _ _ (λ e. put-other w (tableAt n + r) v (cellsAt + 64 * p + t) (λ z. omega arith)))
   where
     row : (m s : ℕ) (k : Bool) → eqb m n ≡ k
-        → _≡_ {A = ℕ} (only (ltb m 9 && ltb s 64) (put w (4 + 64 * n + r) v (4 + 64 * m + s)))
-        ((elim k as (λ (x : Bool). ℕ → ℕ) [ true ↦ (λ s. elim (eqb s r) [ true ↦ v | false ↦ only (ltb n 9 && ltb s 64) (w (4 + 64 * n + s)) ]) | false ↦ (λ s. only (ltb m 9 && ltb s 64) (w (4 + 64 * m + s))) ]) s)
-    row m s false q = only-same (ltb m 9 && ltb s 64) _ _ (λ e.
-        let l = ltb-true s 64 (and-out (ltb m 9) (ltb s 64) e .1) in
-        let b = eqb-false m n q in put-other w (4 + 64 * n + r) v (4 + 64 * m + s) (λ z. b (omega arith)))
+        → _≡_ {A = ℕ} (only (ltb m tableCount && ltb s 64) (put w (tableAt n + r) v (tableAt m + s)))
+        ((elim k as (λ (x : Bool). ℕ → ℕ) [
+          | true ↦ (λ s. elim (eqb s r) [ true ↦ v | false ↦ only (ltb n tableCount && ltb s 64) (w (tableAt n + s)) ])
+          | false ↦ (λ s. only (ltb m tableCount && ltb s 64) (w (tableAt m + s)))
+        ]) s)
+    row m s false q = only-same (ltb m tableCount && ltb s 64) _ _ (λ e.
+        let l = ltb-true s 64 (and-out (ltb m tableCount) (ltb s 64) e .1) in
+        let b = eqb-false m n q in put-other w (tableAt n + r) v (tableAt m + s) (λ z. b (omega arith)))
     row m s true q =
-        ap (λ (x : ℕ). only (ltb x 9 && ltb s 64) (put w (4 + 64 * n + r) v (4 + 64 * x + s))) (eqb-true m n q)
-        ∙ read-after w (ltb n 9 && ltb s 64) (4 + 64 * n + s) (4 + 64 * n + r) v (eqb s r)
-        (λ e. let o = eqb-true s r e in (and-in (lt-ltb n 9 hn) (lt-ltb s 64 (omega arith)), omega arith))
+        ap (λ (x : ℕ). only (ltb x tableCount && ltb s 64) (put w (tableAt n + r) v (tableAt x + s))) (eqb-true m n q)
+        ∙ read-after w (ltb n tableCount && ltb s 64) (tableAt n + s) (tableAt n + r) v (eqb s r)
+        (λ e. let o = eqb-true s r e in (and-in (lt-ltb n tableCount hn) (lt-ltb s 64 (omega arith)), omega arith))
         (λ e t z. eqb-false s r e (omega arith))
 
 -- A cell.
-pub put-cell : (w : ℕ → ℕ) (p t v : ℕ) → p < 64 → t < 64 → read (put w (580 + 64 * p + t) v) ≡ setCell (read w) p t v
+pub put-cell : (w : ℕ → ℕ) (p t v : ℕ) → p < 64 → t < 64 → read (put w (cellsAt + 64 * p + t) v) ≡ withCell p t v (read w)
 unfolding read
 put-cell w p t v hp ht = book-ext _ _
-    (λ j. only-same (ltb j 4) _ _ (λ e. let l = ltb-true j 4 e in put-other w (580 + 64 * p + t) v j (λ z. omega arith)))
-    (λ m s. only-same (ltb m 9 && ltb s 64) _ _ (λ e.
-    let k = and-out (ltb m 9) (ltb s 64) e in
-    let h = ltb-true m 9 (k .0) in
-    let l = ltb-true s 64 (k .1) in put-other w (580 + 64 * p + t) v (4 + 64 * m + s) (λ z. omega arith)))
-    (λ q u. read-after w (ltb q 64 && ltb u 64) (580 + 64 * q + u) (580 + 64 * p + t) v (eqb q p && eqb u t)
+    (λ j. only-same (ltb j headWords) _ _ (λ e. let l = ltb-true j headWords e in put-other w (cellsAt + 64 * p + t) v j (λ z. omega arith)))
+    (λ m s. only-same (ltb m tableCount && ltb s 64) _ _ (λ e.
+    let k = and-out (ltb m tableCount) (ltb s 64) e in
+    let h = ltb-true m tableCount (k .0) in
+    let l = ltb-true s 64 (k .1) in put-other w (cellsAt + 64 * p + t) v (tableAt m + s) (λ z. omega arith)))
+    (λ q u. read-after w (ltb q 64 && ltb u 64) (cellsAt + 64 * q + u) (cellsAt + 64 * p + t) v (eqb q p && eqb u t)
     (λ e.
     let k = and-out (eqb q p) (eqb u t) e in
     let a = eqb-true q p (k .0) in
@@ -95,16 +98,16 @@ stored l i v h = fun-ext (λ j. go j (ℕ-discrete j i))
     go j (yes e) = ap (λ (k : ℕ). getD (set l i v) k 0) e ∙ getD-set-same l i v 0 h ∙ sym (put-same (words l) i v j e)
     go j (no e) = getD-set-other l i j v 0 e ∙ sym (put-other (words l) i v j e)
 
--- The same of a slice of 4,676 words.
-module _ (l : List ℕ) (full : length l ≡ 4676) (v : ℕ) where
-  pub stored-head : (i : ℕ) → i < 4 → tables (set l i v) ≡ setHead (tables l) (setRow ((tables l) .head) i v)
+-- The same of a full slice.
+module _ (l : List ℕ) (full : Full l) (v : ℕ) where
+  pub stored-head : (i : ℕ) → i < headWords → tables (set l i v) ≡ withHead i v (tables l)
   stored-head i h = ap read (stored l i v (omega arith)) ∙ put-head (words l) i v h
 
-  pub stored-row : (n r : ℕ) → n < 9 → r < 64 → tables (set l (4 + 64 * n + r) v) ≡ setTable (tables l) n (setRow ((tables l) .row n) r v)
-  stored-row n r hn hr = ap read (stored l (4 + 64 * n + r) v (omega arith)) ∙ put-row (words l) n r v hn hr
+  pub stored-row : (n r : ℕ) → n < tableCount → r < 64 → tables (set l (tableAt n + r) v) ≡ withRow n r v (tables l)
+  stored-row n r hn hr = ap read (stored l (tableAt n + r) v (omega arith)) ∙ put-row (words l) n r v hn hr
 
-  pub stored-cell : (p t : ℕ) → p < 64 → t < 64 → tables (set l (580 + 64 * p + t) v) ≡ setCell (tables l) p t v
-  stored-cell p t hp ht = ap read (stored l (580 + 64 * p + t) v (omega arith)) ∙ put-cell (words l) p t v hp ht
+  pub stored-cell : (p t : ℕ) → p < 64 → t < 64 → tables (set l (cellsAt + 64 * p + t) v) ≡ withCell p t v (tables l)
+  stored-cell p t hp ht = ap read (stored l (cellsAt + 64 * p + t) v (omega arith)) ∙ put-cell (words l) p t v hp ht
 
 -- A table set is read where it was set, and set twice is set once.
 pub set-table-row : (d : Book) (n : ℕ) (f : ℕ → ℕ) → (setTable d n f) .row n ≡ f
@@ -113,6 +116,9 @@ set-table-row d n f = ap (λ (t : Bool). elim t as (λ (x : Bool). ℕ → ℕ) 
 pub set-table-twice : (d : Book) (n : ℕ) (f g : ℕ → ℕ) → setTable (setTable d n f) n g ≡ setTable d n g
 set-table-twice d n f g = book-ext _ _ (λ i. refl) (λ m r. go m r (eqb m n)) (λ p t. refl)
   where
-    go : (m r : ℕ) (t : Bool) → _≡_ {A = ℕ} ((elim t as (λ (x : Bool). ℕ → ℕ) [ true ↦ g | false ↦ elim t as (λ (x : Bool). ℕ → ℕ) [ true ↦ f | false ↦ d .row m ] ]) r) ((elim t as (λ (x : Bool). ℕ → ℕ) [ true ↦ g | false ↦ d .row m ]) r)
+    or-else : Bool → (ℕ → ℕ) → (ℕ → ℕ) → ℕ → ℕ
+    or-else t f g = elim t as (λ (x : Bool). ℕ → ℕ) [ true ↦ f | false ↦ g ]
+
+    go : (m r : ℕ) (t : Bool) → or-else t g (or-else t f (d .row m)) r ≡ or-else t g (d .row m) r
     go m r true = refl
     go m r false = refl

@@ -4,16 +4,16 @@ use Prim.Native.Nat.{ℕ}
 use lib.Dec.{eqb, ltb}
 use Rattle.sets.specs.Mask.{bit}
 use Rattle.rules.specs.Book.{Book}
-use Rattle.rules.specs.Requests.{written}
+use Rattle.rules.specs.Requests.{stampedCell}
 
 -- the cells of order p for the tasks below i are what g gives of the task
-abbrev pub writtenTo : ℕ → Book → ℕ → (ℕ → ℕ) → Book
-writtenTo i d p g = record { head = d .head; row = d .row; cell = λ q t. elim (eqb q p && ltb t i) [ true ↦ g t | false ↦ d .cell q t ] }
+abbrev pub filledTo : ℕ → Book → ℕ → (ℕ → ℕ) → Book
+filledTo i d p g = record { head = d .head; row = d .row; cell = λ q t. elim (eqb q p && ltb t i) [ true ↦ g t | false ↦ d .cell q t ] }
 
 -- all cells of order p are
-abbrev pub writtenAll : Book → ℕ → (ℕ → ℕ) → Book
-writtenAll d p g = record { head = d .head; row = d .row; cell = λ q t. elim (eqb q p) [ true ↦ g t | false ↦ d .cell q t ] }
+abbrev pub filledAll : Book → ℕ → (ℕ → ℕ) → Book
+filledAll d p g = record { head = d .head; row = d .row; cell = λ q t. elim (eqb q p) [ true ↦ g t | false ↦ d .cell q t ] }
 
 -- kind 13: the new cell of task t in order p, by the role hand and the subject hand; e is c's active role, plus 1
 abbrev pub newCell : Book → ℕ → ℕ → ℕ → ℕ → ℕ → ℕ → ℕ
-newCell d p byRole bySubject e c t = written (bit byRole t) (bit bySubject t) e c (d .cell p t)
+newCell d p byRole bySubject e c t = stampedCell (bit byRole t) (bit bySubject t) e c (d .cell p t)

@@ -1,16 +1,15 @@
 // The changes that write an order's cells in place: kinds 12 and 14 empty them, kind 13 stamps those of a hand.
-// Whoever calls these has seen that the slice has 4,676 words and that the numbers are in range.
+// Whoever calls these has seen that the slice is full and that the numbers are in range.
 ghost use mathlib.Core.Path.{_≡_};
 ghost use Prim.Native.Nat.{_≤_, _<_};
-ghost use lib.ListN.{length};
-ghost use Rattle.rules.specs.Requests.{setOrder, written, stamped};
-ghost use Rattle.book.specs.Slice.{tables, setCell};
+ghost use Rattle.rules.specs.Requests.{setOrder, stampedCell, stamped};
+ghost use Rattle.book.specs.Slice.{Full, Became, withCell};
 ghost use Rattle.cells.specs.Cells.{newCell};
 
 // The order's task mask is stored, and all its 64 cells become 0.
 pub fn set_order(book: &mut [u64], order: u64, tasks: u64)
-    requires { ⌜ (length (now book) ≡ 4676) × (order < 64) ⌝ }
-    ensures { λ _. ⌜ (length (now (book .exit)) ≡ 4676) × (tables (now (book .exit)) ≡ setOrder (tables (now (book .entry))) order tasks) ⌝ }
+    requires { ⌜ Full (now book) × (order < 64) ⌝ }
+    ensures { λ _. ⌜ Became (now (book .entry)) (now (book .exit)) (λ d. setOrder d order tasks) ⌝ }
 {
     book::set_row(book, book::ORDERS, order, tasks);
     for t in 0..64 {
@@ -21,22 +20,22 @@ pub fn set_order(book: &mut [u64], order: u64, tasks: u64)
 // A cell of v after kind 13, where e is the executing role plus 1: the role in the role hand, the subject too in the subject hand.
 fn stamped_cell(in_role: bool, in_subject: bool, e: u64, subject: u64, v: u64) -> u64
     requires { ⌜ (e ≤ 64) × (subject < 64) ⌝ }
-    ensures { λ r. ⌜ r ≡ written in_role in_subject e subject v ⌝ }
+    ensures { λ r. ⌜ r ≡ stampedCell in_role in_subject e subject v ⌝ }
 {
     if !in_role {
         return v;
     }
     if in_subject {
-        128 * e + (subject + 1)
+        book::cell_of(e, subject + 1)
     } else {
-        128 * e + v % 128
+        book::cell_of(e, book::subject_in(v))
     }
 }
 
 // The cell of one task, stamped: `wide` is the role hand, `narrow` the subject hand.
 fn stamp_task(book: &mut [u64], order: u64, task: u64, wide: u64, narrow: u64, e: u64, subject: u64)
-    requires { ⌜ (length (now book) ≡ 4676) × (order < 64) × (task < 64) × (e ≤ 64) × (subject < 64) ⌝ }
-    ensures { λ _. ⌜ (length (now (book .exit)) ≡ 4676) × (tables (now (book .exit)) ≡ setCell (tables (now (book .entry))) order task (newCell (tables (now (book .entry))) order wide narrow e subject task)) ⌝ }
+    requires { ⌜ Full (now book) × (order < 64) × (task < 64) × (e ≤ 64) × (subject < 64) ⌝ }
+    ensures { λ _. ⌜ Became (now (book .entry)) (now (book .exit)) (λ d. withCell order task (newCell d order wide narrow e subject task) d) ⌝ }
 {
     let v = book::cell(book, order, task);
     let new = stamped_cell(
@@ -51,8 +50,8 @@ fn stamp_task(book: &mut [u64], order: u64, task: u64, wide: u64, narrow: u64, e
 
 // Each cell of the order stamped: `wide` is the role hand, `narrow` the subject hand, e the executing role plus 1.
 pub fn stamp(book: &mut [u64], order: u64, wide: u64, narrow: u64, e: u64, subject: u64)
-    requires { ⌜ (length (now book) ≡ 4676) × (order < 64) × (e ≤ 64) × (subject < 64) ⌝ }
-    ensures { λ _. ⌜ (length (now (book .exit)) ≡ 4676) × (tables (now (book .exit)) ≡ stamped (tables (now (book .entry))) order wide narrow e subject) ⌝ }
+    requires { ⌜ Full (now book) × (order < 64) × (e ≤ 64) × (subject < 64) ⌝ }
+    ensures { λ _. ⌜ Became (now (book .entry)) (now (book .exit)) (λ d. stamped d order wide narrow e subject) ⌝ }
 {
     for task in 0..64 {
         stamp_task(book, order, task, wide, narrow, e, subject);

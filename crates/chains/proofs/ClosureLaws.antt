@@ -1,8 +1,8 @@
 -- The computed closure is exactly what chains of any length lead to, and 64 steps suffice.
-use mathlib.Core.Path.{_≡_, refl, sym, ap, _∙_, subst}
+use mathlib.Core.Path.{_≡_, refl, sym, subst}
 use mathlib.Core.Logic.{_⊎_, inl, inr}
 use mathlib.Core.Bool.{Bool, true, false}
-use Prim.Native.Nat.{ℕ, zero, suc, _+_, _-_, _^_, _≤_, _<_}
+use Prim.Native.Nat.{ℕ, zero, suc, _+_, _^_, _≤_, _<_}
 use native.Mathlib.Nat.{le-refl}
 use native.Mathlib.Decide.{decLt}
 use native.Mathlib.Omega.{arith}
@@ -11,60 +11,11 @@ use lib.Bits.{or-lt}
 use lib.Pow.{pow-lt}
 use borrow.Author.Tests.{eqb-true, eqb-false}
 use Rattle.sets.specs.Mask.{bit, joined}
+use Rattle.sets.specs.Count.{count}
 use Rattle.sets.proofs.MaskLaws.{bit-ext, bit-lt, in-l, in-r, in-cases, in-one, one-out, joined-in, joined-out, joined-lt}
+use Rattle.sets.proofs.CountLaws.{count-le, Sub, count-same}
 use Rattle.chains.specs.Closure.{widen, close, group}
 use Rattle.chains.specs.Relation.{Relation, In, Step, Chain, stay, more, Steps, none, next}
-
--- Counting members: a set that grows at each widening is still after 64 of them.
-digit : Bool → ℕ
-digit true = 1
-digit false = 0
-
-count : ℕ → ℕ → ℕ
-count zero m = 0
-count (suc k) m = count k m + digit (bit m k)
-
-digit-le : (t : Bool) → digit t ≤ 1
-unfolding digit
-digit-le true = le-refl 1
-digit-le false = omega arith
-
-count-le : (k m : ℕ) → count k m ≤ k
-unfolding count
-count-le zero m = le-refl 0
-count-le (suc k) m = omega (arith, count-le k m, digit-le (bit m k))
-
-Sub : ℕ → ℕ → Type 0
-Sub m n = (i : ℕ) → bit m i ≡ true → bit n i ≡ true
-
-digit-mono : (s t : Bool) → (s ≡ true → t ≡ true) → digit s ≤ digit t
-unfolding digit
-digit-mono true t f = subst (λ (x : Bool). 1 ≤ digit x) (sym (f refl)) (le-refl 1)
-digit-mono false t f = omega arith
-
-count-mono : (k m n : ℕ) → Sub m n → count k m ≤ count k n
-unfolding count Sub
-count-mono zero m n s = le-refl 0
-count-mono (suc k) m n s = omega (arith, count-mono k m n s, digit-mono (bit m k) (bit n k) (s k))
-
-digit-eq : (s t : Bool) → (s ≡ true → t ≡ true) → digit t ≤ digit s → s ≡ t
-unfolding digit
-digit-eq true t f h = sym (f refl)
-digit-eq false false f h = refl
-digit-eq false true f h = absurd (omega arith)
-
--- a larger mask with no more members has the same
-count-same : (k m n : ℕ) → Sub m n → count k n ≤ count k m → (i : ℕ) → i < k → bit m i ≡ bit n i
-unfolding count Sub
-count-same zero m n s h i l = absurd (omega arith)
-count-same (suc k) m n s h i l =
-    go (decLt i k) (λ q. count-same k m n s (omega (arith, digit-mono (bit m k) (bit n k) (s k))) i q)
-  where
-    go : Dec (i < k) → (i < k → bit m i ≡ bit n i) → bit m i ≡ bit n i
-    go (yes q) rec = rec q
-    go (no q) rec =
-        let e : k ≡ i = omega arith in
-        subst (λ (x : ℕ). bit m x ≡ bit n x) e (digit-eq (bit m k) (bit n k) (s k) (omega (arith, count-mono k m n s)))
 
 -- A chain leads to j from a member of m.
 abbrev pub From : (ℕ → ℕ) → ℕ → ℕ → Type 0
@@ -110,17 +61,17 @@ module _ (rows : ℕ → ℕ) (bound : (i : ℕ) → rows i < 2 ^ 64) where
   widen-lt m h = or-lt 64 m (joined 64 rows m) h (joined-lt rows bound 64 m)
 
   widen-sub : (m : ℕ) → Sub m (widen rows m)
-  unfolding widen Sub
+  unfolding widen
   widen-sub m i e = in-l m (joined 64 rows m) i e
 
   -- a widening that adds nothing to the count adds nothing
-  widen-same : (m : ℕ) → m < 2 ^ 64 → count 64 (widen rows m) ≤ count 64 m → widen rows m ≡ m
+  widen-same : (m : ℕ) → m < 2 ^ 64 → count (widen rows m) ≤ count m → widen rows m ≡ m
   widen-same m h l = sym (bit-ext 64 m (widen rows m) h (widen-lt m h) (count-same 64 m (widen rows m) (widen-sub m) l))
 
-  widen-more : (m : ℕ) → m < 2 ^ 64 → (widen rows m ≡ m → ⊥) → count 64 m < count 64 (widen rows m)
-  widen-more m h ne = go (decLt (count 64 m) (count 64 (widen rows m)))
+  widen-more : (m : ℕ) → m < 2 ^ 64 → (widen rows m ≡ m → ⊥) → count m < count (widen rows m)
+  widen-more m h ne = go (decLt (count m) (count (widen rows m)))
     where
-      go : Dec (count 64 m < count 64 (widen rows m)) → count 64 m < count 64 (widen rows m)
+      go : Dec (count m < count (widen rows m)) → count m < count (widen rows m)
       go (yes l) = l
       go (no l) = absurd (ne (widen-same m h (omega arith)))
 
@@ -134,7 +85,7 @@ module _ (rows : ℕ → ℕ) (bound : (i : ℕ) → rows i < 2 ^ 64) where
       go false r = r
 
   -- 64 widenings are enough
-  stable : (n m : ℕ) → m < 2 ^ 64 → 64 ≤ count 64 m + n → widen rows (close n rows m) ≡ close n rows m
+  stable : (n m : ℕ) → m < 2 ^ 64 → 64 ≤ count m + n → widen rows (close n rows m) ≡ close n rows m
   unfolding close
   stable zero m h l = widen-same m h (omega (arith, count-le 64 (widen rows m)))
   stable (suc n) m h l = go (eqb (widen rows m) m) refl (λ q. stable n (widen rows m) (widen-lt m h) (omega (arith, widen-more m h q)))
@@ -145,7 +96,7 @@ module _ (rows : ℕ → ℕ) (bound : (i : ℕ) → rows i < 2 ^ 64) where
       go false e r = r (eqb-false (widen rows m) m e)
 
   close-sub : (n m : ℕ) → Sub m (close n rows m)
-  unfolding close Sub
+  unfolding close
   close-sub zero m i e = e
   close-sub (suc n) m i e = go (eqb (widen rows m) m) (close-sub n (widen rows m) i (widen-sub m i e))
     where
@@ -173,20 +124,15 @@ module _ (rows : ℕ → ℕ) (bound : (i : ℕ) → rows i < 2 ^ 64) where
       (joined-in rows 64 (close 64 rows m) i j (bit-lt (close 64 rows m) i (close-lt 64 m h) p) p q))
 
   chain-close : (m i j : ℕ) → m < 2 ^ 64 → In m i → Chain (Step rows) i j → In (close 64 rows m) j
-  unfolding Sub
   chain-close m i j h p stay = close-sub 64 m i p
   chain-close m i j h p (more {j = k} c e) = close-step m k j h (chain-close m i k h p c) e
 
-  -- The closure of m has exactly the members that chains of any length lead to from a member of m ..
+  -- The closure of m has exactly the members that chains of any length lead to from a member of m.
   pub close-chain : (m j : ℕ) → In (close 64 rows m) j → From rows m j
   close-chain m j e = let w = close-within 64 m j e in (w .from, w .starts, steps-chain (w .way))
 
   pub from-close : (m j : ℕ) → m < 2 ^ 64 → From rows m j → In (close 64 rows m) j
   from-close m j h w = chain-close m (w .0) j h (w .1) (w .2)
-
-  -- .. and a chain of at most 64 steps leads to each of them.
-  pub close-short : (m j : ℕ) → In (close 64 rows m) j → Within 64 rows m j
-  close-short m j e = close-within 64 m j e
 
   -- The group of t is exactly what chains of no steps or more lead to from t.
   pub group-chain : (t j : ℕ) → In (group rows t) j → Chain (Step rows) t j

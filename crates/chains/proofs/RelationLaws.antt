@@ -2,7 +2,7 @@
 use mathlib.Core.Path.{_≡_, refl, sym, subst}
 use mathlib.Core.Logic.{_⊎_, inl, inr}
 use Prim.Native.Nat.{ℕ}
-use Rattle.chains.specs.Relation.{Relation, Subset, Chain, stay, more, Reaches}
+use Rattle.chains.specs.Relation.{Relation, Chain, stay, more, Reaches}
 
 -- A chain of one relation is one of a wider relation.
 pub chain-map : {E F : Relation} → ((j k : ℕ) → E j k → F j k) → {i j : ℕ} → Chain E i j → Chain F i j

@@ -1,7 +1,7 @@
 -- What chains along a family of rows lead to, computed. `rows i` is the set of numbers one step from i.
 -- proofs/ClosureLaws.antt shows that this is exactly what the chains of Relation.antt lead to, of any length.
 use mathlib.Core.Bool.{true, false}
-use Prim.Native.Nat.{ℕ, zero, suc, _-_, _^_}
+use Prim.Native.Nat.{ℕ, zero, suc, _^_}
 use lib.Dec.{eqb}
 use lib.Bits.{bitOr}
 use Rattle.sets.specs.Mask.{joined}

@@ -1,7 +1,7 @@
 -- Chains over relations, as the document speaks of them: no mask and no bound on their length.
 use mathlib.Core.Path.{_≡_}
 use mathlib.Core.Bool.{true}
-use Prim.Native.Nat.{ℕ, zero, suc}
+use Prim.Native.Nat.{ℕ, zero, suc, _≤_, _<_}
 use Rattle.sets.specs.Mask.{bit}
 
 abbrev pub Relation : Type 1
@@ -33,3 +33,10 @@ pub record Reaches (E : Relation) (i j : ℕ) : Type 0 where
 pub data Steps (E : Relation) (i : ℕ) : ℕ → ℕ → Type 0 where
   none : Steps E i zero i
   next : {n j k : ℕ} → Steps E i n j → E j k → Steps E i (suc n) k
+
+-- a chain of at least one step and at most k
+pub record Short (k : ℕ) (E : Relation) (i j : ℕ) : Type 0 where
+  pub count : ℕ
+  pub some : 0 < count
+  pub few : count ≤ k
+  pub way : Steps E i count j

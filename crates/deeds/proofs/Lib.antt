@@ -1,2 +1,3 @@
 pub mod OutcomeLaws
 pub mod CascadeLaws
+pub mod ConflictLaws

@@ -1,26 +1,25 @@
 -- How a function shows what it settled: the first answer that is not 0 stands, and only 0 changes the book.
 use mathlib.Core.Path.{_≡_, refl, sym, ap, ap₂, _∙_}
-use mathlib.Core.Bool.{Bool, true, false, true≢false}
+use mathlib.Core.Bool.{true, false, true≢false}
 use mathlib.Core.List.{List}
 use Prim.Native.Nat.{ℕ}
-use lib.ListN.{length}
 use Rattle.rules.specs.Book.{Book}
 use Rattle.rules.specs.Requests.{Deed, change}
-use Rattle.rules.specs.Numbers.{Said, accepted, say, orElse, stateRefusal, conflicts, firstOf}
-use Rattle.book.specs.Slice.{tables}
+use Rattle.rules.specs.Numbers.{Said, accepted, says, orElse, stateRefusal, conflicts, firstOf, isAccepted}
+use Rattle.book.specs.Slice.{tables, Full}
 use Rattle.answers.specs.declared.Answer.{Answer}
-use Rattle.answers.specs.Answers.{said, isAccepted}
+use Rattle.answers.specs.Answers.{said}
 use Rattle.deeds.specs.Outcome.{decide, settle, Settled}
 
 stands-first : (s t : Said) → isAccepted s ≡ false → orElse s t ≡ s
 unfolding orElse
 stands-first accepted t e = absurd (true≢false e)
-stands-first (say n x y) t e = refl
+stands-first (says n r) t e = refl
 
 gives-way : (s t : Said) → isAccepted s ≡ true → orElse s t ≡ t
 unfolding orElse
 gives-way accepted t e = refl
-gives-way (say n x y) t e = absurd (true≢false (sym e))
+gives-way (says n r) t e = absurd (true≢false (sym e))
 
 module _ (d : Book) (k : Deed) (a b c : ℕ) where
   -- A refusal is the answer ..
@@ -29,23 +28,24 @@ module _ (d : Book) (k : Deed) (a b c : ℕ) where
   decide-refused s e f = e ∙ sym (stands-first (stateRefusal d k a b c) _ (ap isAccepted (sym e) ∙ f))
 
   -- .. and where there is none, the conflicts decide.
-  pub decide-conflict : (s t : Said) → s ≡ stateRefusal d k a b c → isAccepted s ≡ true → t ≡ firstOf (conflicts k) d a b c → t ≡ decide d k a b c
+  pub decide-conflict : (s t : Said) → s ≡ stateRefusal d k a b c → isAccepted s ≡ true → t ≡ firstOf (conflicts k c) d a b → t ≡ decide d k a b c
   unfolding decide
   decide-conflict s t e f g = g ∙ sym (gives-way (stateRefusal d k a b c) _ (ap isAccepted (sym e) ∙ f))
 
 settle-changed : (s : Said) (new old : Book) → isAccepted s ≡ true → settle s new old ≡ new
 unfolding settle
 settle-changed accepted new old e = refl
-settle-changed (say n x y) new old e = absurd (true≢false (sym e))
+settle-changed (says n r) new old e = absurd (true≢false (sym e))
 
 settle-kept : (s : Said) (new old : Book) → isAccepted s ≡ false → settle s new old ≡ old
 unfolding settle
 settle-kept accepted new old e = absurd (true≢false e)
-settle-kept (say n x y) new old e = refl
+settle-kept (says n r) new old e = refl
 
 module _ {before : List ℕ} {k : Deed} {a b c : ℕ} {r : Answer} (told : said r ≡ decide (tables before) k a b c) where
   -- The answer is 0 and the change was made.
-  pub settled-changed : {after : List ℕ} → isAccepted (said r) ≡ true → length after ≡ 4676 → tables after ≡ change (tables before) k a b c → Settled before after k a b c r
+  pub settled-changed : {after : List ℕ} → isAccepted (said r) ≡ true → Full after → tables after ≡ change (tables before) k a b c
+      → Settled before after k a b c r
   settled-changed e full book = record {
     answer = told;
     full = full;
@@ -53,7 +53,7 @@ module _ {before : List ℕ} {k : Deed} {a b c : ℕ} {r : Answer} (told : said 
   }
 
   -- The answer is another number and nothing was stored.
-  pub settled-kept : isAccepted (said r) ≡ false → length before ≡ 4676 → Settled before before k a b c r
+  pub settled-kept : isAccepted (said r) ≡ false → Full before → Settled before before k a b c r
   settled-kept e full = record {
     answer = told;
     full = full;
@@ -61,6 +61,10 @@ module _ {before : List ℕ} {k : Deed} {a b c : ℕ} {r : Answer} (told : said 
   }
 
 -- A deed that does not look at b or c has settled the same whatever they are.
-pub settled-for : {before after : List ℕ} {k : Deed} {a b c b′ c′ : ℕ} {r : Answer} → decide (tables before) k a b c ≡ decide (tables before) k a b′ c′ → change (tables before) k a b c ≡ change (tables before) k a b′ c′
-    → Settled before after k a b c r → Settled before after k a b′ c′ r
-settled-for {before} e f s = record { answer = s .answer ∙ e; full = s .full; book = s .book ∙ ap₂ (λ (t : Said) (d : Book). settle t d (tables before)) e f }
+pub settled-for : {before after : List ℕ} {k : Deed} {a b c b′ c′ : ℕ} {r : Answer} → decide (tables before) k a b c ≡ decide (tables before) k a b′ c′
+    → change (tables before) k a b c ≡ change (tables before) k a b′ c′ → Settled before after k a b c r → Settled before after k a b′ c′ r
+settled-for {before} e f s = record {
+  answer = s .answer ∙ e;
+  full = s .full;
+  book = s .book ∙ ap₂ (λ (t : Said) (d : Book). settle t d (tables before)) e f;
+}

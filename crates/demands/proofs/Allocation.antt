@@ -17,11 +17,11 @@ use Rattle.sets.proofs.MaskLaws.{in-both, both-out, in-one, one-out, joined-in,
 use Rattle.chains.specs.Relation.{Relation, In, Step, Chain}
 use Rattle.chains.proofs.RelationLaws.{chain-join, chain-turn}
 use Rattle.rules.specs.Book.{Book, roles, subjects, SME, DME, active, orders, roleIn, subjectIn}
-use Rattle.rules.specs.Requests.{allocate, roleHand, subjectHand, written, allocated, change}
-use Rattle.rules.specs.Numbers.{conflicts, heldBy, heldSme, heldDme}
+use Rattle.rules.specs.Requests.{allocate, roleHand, subjectHand, stampedCell, allocated, change}
+use Rattle.rules.specs.Numbers.{heldBy, heldSme, heldDme, heldConflicts, conflicts}
 use Rattle.rules.specs.Meaning.{Sized, Symmetric, Apart, Both, HandsApart, OneValue, CellWord, Sound}
 use Rattle.rules.proofs.Exactly.{Exactly, exactly-and, exactly-eqb, unless-holds}
-use Rattle.rules.proofs.ChangeLaws.{unwritten}
+use Rattle.rules.proofs.ChangeLaws.{unstamped}
 use Rattle.rules.proofs.TradeLaws.{step-to, Shows, subject-group, role-group}
 use Rattle.demands.proofs.Tables.{Sme, Dme, Excluding, SubjectBound, RoleBound, subject-role, role-turns, excluding-turns, excluding-apart}
 use Rattle.demands.proofs.Conflicts.{Silent, one-silent, more-silent, Exact, exact, silent-between}
@@ -59,7 +59,9 @@ module _ {E : Relation} {o : ℕ → ℕ} {a b : ℕ} (turn : Symmetric E) where
       where
         go : Dec (InHand E o a b p u) → value (cell′ p u) ≡ value (cell′ p v)
         go (yes i) = stamped .inside p u i ∙ sym (stamped .inside p v (whole E o a b p u v both k i))
-        go (no f) = stamped .outside p u f ∙ rule p u v both k ∙ sym (stamped .outside p v (λ i. f (whole E o a b p v u (both .1, both .0) (chain-turn turn k) i)))
+        go (no f) =
+            stamped .outside p u f ∙ rule p u v both k
+            ∙ sym (stamped .outside p v (λ i. f (whole E o a b p v u (both .1, both .0) (chain-turn turn k) i)))
 
   module _ {X : Relation} {cell cell′ : ℕ → ℕ → ℕ} {n : ℕ} (stamped : Stamped E o a b cell cell′ subjectIn n) where
     -- Rule 9 is kept where nothing that c holds excludes a task of the hand ..
@@ -95,22 +97,22 @@ decided {t} {P} e = go t refl
     go false q = no (λ p. not-both t (e .holds p) q)
 
 -- What is written in the role hand is the role ..
-written-role : (inRole inSubject : Bool) (e c v : ℕ) → c < 64 → inRole ≡ true → roleIn (written inRole inSubject e c v) ≡ e
-unfolding written
-written-role true true e c v h p = omega arith
-written-role true false e c v h p = omega arith
-written-role false s e c v h p = absurd (true≢false (sym p))
+stamped-role : (inRole inSubject : Bool) (e c v : ℕ) → c < 64 → inRole ≡ true → roleIn (stampedCell inRole inSubject e c v) ≡ e
+unfolding stampedCell
+stamped-role true true e c v h p = omega arith
+stamped-role true false e c v h p = omega arith
+stamped-role false s e c v h p = absurd (true≢false (sym p))
 
 -- .. in the subject hand the subject too ..
-written-subject : (inRole inSubject : Bool) (e c v : ℕ) → c < 64 → inRole ≡ true → inSubject ≡ true → subjectIn (written inRole inSubject e c v) ≡ suc c
-unfolding written
-written-subject true true e c v h p q = omega arith
-written-subject true false e c v h p q = absurd (true≢false (sym q))
-written-subject false s e c v h p q = absurd (true≢false (sym p))
+stamped-subject : (inRole inSubject : Bool) (e c v : ℕ) → c < 64 → inRole ≡ true → inSubject ≡ true → subjectIn (stampedCell inRole inSubject e c v) ≡ suc c
+unfolding stampedCell
+stamped-subject true true e c v h p q = omega arith
+stamped-subject true false e c v h p q = absurd (true≢false (sym q))
+stamped-subject false s e c v h p q = absurd (true≢false (sym p))
 
 -- .. and outside it the subject stays.
-kept-subject : (inRole inSubject : Bool) (e c v : ℕ) → inSubject ≡ false → subjectIn (written inRole inSubject e c v) ≡ subjectIn v
-unfolding written
+kept-subject : (inRole inSubject : Bool) (e c v : ℕ) → inSubject ≡ false → subjectIn (stampedCell inRole inSubject e c v) ≡ subjectIn v
+unfolding stampedCell
 kept-subject true true e c v q = absurd (true≢false q)
 kept-subject true false e c v q = omega arith
 kept-subject false s e c v q = refl
@@ -148,7 +150,8 @@ module _ (d : Book) (sized : Sized d) (sound : Sound d) (a b c : ℕ) (ha : a < 
       mine : ℕ → ℕ
       mine t = only (eqb (subjectIn (d .cell b t)) (suc c)) (2 ^ t)
 
-      out : (t : ℕ) → Step o b t → (s : Bool) → eqb (subjectIn (d .cell b t)) (suc c) ≡ s → In (only s (2 ^ t)) x → Step o b x × (subjectIn (d .cell b x) ≡ suc c)
+      out : (t : ℕ) → Step o b t → (s : Bool) → eqb (subjectIn (d .cell b t)) (suc c) ≡ s → In (only s (2 ^ t)) x
+          → Step o b x × (subjectIn (d .cell b x) ≡ suc c)
       out t i true p q = subst (λ (y : ℕ). Step o b y × (subjectIn (d .cell b y) ≡ suc c)) (one-out t x q) (i, eqb-true (subjectIn (d .cell b t)) (suc c) p)
       out t i false p q = absurd (zero-none x refl q)
 
@@ -162,13 +165,15 @@ module _ (d : Book) (sized : Sized d) (sound : Sound d) (a b c : ℕ) (ha : a < 
 
   -- A cell outside the role hand is as it was.
   untouched : (p t : ℕ) → (InHand (RoleBound d) o a b p t → ⊥) → now p t ≡ d .cell p t
-  untouched p t f = unwritten (eqb p b && bit (roleHand d a b) t) (bit (subjectHand d a b) t) (d .row active c) c (d .cell p t) (unless-holds (writes p t) .fails f)
+  untouched p t f =
+      unstamped (eqb p b && bit (roleHand d a b) t) (bit (subjectHand d a b) t) (d .row active c) c (d .cell p t)
+      (unless-holds (writes p t) .fails f)
 
   -- In the role hand E is c's active role ..
   role-stamped : Stamped (RoleBound d) o a b (d .cell) now roleIn (d .row active c)
   role-stamped = record {
     either = λ p t. decided (writes p t);
-    inside = λ p t i. written-role (eqb p b && bit (roleHand d a b) t) (bit (subjectHand d a b) t) (d .row active c) c (d .cell p t) hc (writes p t .holds i);
+    inside = λ p t i. stamped-role (eqb p b && bit (roleHand d a b) t) (bit (subjectHand d a b) t) (d .row active c) c (d .cell p t) hc (writes p t .holds i);
     outside = λ p t f. ap roleIn (untouched p t f);
   }
 
@@ -176,7 +181,7 @@ module _ (d : Book) (sized : Sized d) (sound : Sound d) (a b c : ℕ) (ha : a < 
   subject-stamped : Stamped (SubjectBound d) o a b (d .cell) now subjectIn (suc c)
   subject-stamped = record {
     either = λ p t. decided (exactly-and (exactly-eqb p b) (subject-says t));
-    inside = λ p t (e, (k, i)). written-subject (eqb p b && bit (roleHand d a b) t) (bit (subjectHand d a b) t) (d .row active c) c (d .cell p t) hc
+    inside = λ p t (e, (k, i)). stamped-subject (eqb p b && bit (roleHand d a b) t) (bit (subjectHand d a b) t) (d .row active c) c (d .cell p t) hc
         (writes p t .holds (e, (subject-role d k, i))) (subject-says t .holds (k, i));
     outside = λ p t f. elsewhere p t f (decided (writes p t));
   }
@@ -199,7 +204,9 @@ module _ (d : Book) (sized : Sized d) (sound : Sound d) (a b c : ℕ) (ha : a < 
         go (no f) h = subst (λ (v : ℕ). CellWord (roles d) (subjects d) (o p) t v) (sym (untouched p t f)) was
         go (yes i) h = record {
           in-order = λ pos. subst (λ (x : ℕ). Step o x t) (sym (i .0)) (i .1 .1);
-          role = λ q e. (let same : r ≡ q = omega (arith, role-stamped .inside p t i) in subst (λ (x : ℕ). In (roles d) x) same (sound .ranks .active-formed c r act .1));
+          role = λ q e. (
+              let same : r ≡ q = omega (arith, role-stamped .inside p t i) in
+              subst (λ (x : ℕ). In (roles d) x) same (sound .ranks .active-formed c r act .1));
           subject = λ q e. (who h q e, omega (arith, role-stamped .inside p t i));
         }
           where
@@ -212,21 +219,21 @@ module _ (d : Book) (sized : Sized d) (sound : Sound d) (a b c : ℕ) (ha : a < 
     HoldsNone X = Free (SubjectBound d) o a b X (d .cell) (suc c)
 
     -- 33, of SME ..
-    silent-held-sme : Silent (HoldsNone (Sme d)) (heldSme d a b c)
+    silent-held-sme : Silent (HoldsNone (Sme d)) (heldSme c d a b)
     unfolding heldSme
     silent-held-sme = silent-between d sized 33 SME (heldBy d b c) (subjectHand d a b) held-says subject-says
 
     -- .. and 34, of DME.
-    silent-held-dme : Silent (HoldsNone (Dme d)) (heldDme d a b c)
+    silent-held-dme : Silent (HoldsNone (Dme d)) (heldDme c d a b)
     unfolding heldDme
     silent-held-dme = silent-between d sized 34 DME (heldBy d b c) (subjectHand d a b) held-says subject-says
 
     -- Kind 13 is exact.
     pub allocate-exact : Exact d allocate a b c
-    unfolding change conflicts
+    unfolding change conflicts heldConflicts
     allocate-exact =
         exact d allocate a b c
-        (more-silent heldSme _ d a b c silent-held-sme (one-silent heldDme d a b c silent-held-dme))
+        (more-silent (heldSme c) _ d a b silent-held-sme (one-silent (heldDme c) d a b silent-held-dme))
         (λ (sme, dme). record {
           gap = sound .gap;
           bindings = sound .bindings;
@@ -234,7 +241,8 @@ module _ (d : Book) (sized : Sized d) (sound : Sound d) (a b c : ℕ) (ha : a < 
           orders = record {
             orders-formed = sound .orders .orders-formed;
             cells-formed = cells-formed;
-            rule9 = apart-kept (sound .bindings .sb .rule2) subject-stamped (excluding-turns d sound) (excluding-apart d sound) (sound .orders .rule9) (either sme dme);
+            rule9 = apart-kept (sound .bindings .sb .rule2) subject-stamped (excluding-turns d sound) (excluding-apart d sound)
+                (sound .orders .rule9) (either sme dme);
             rule10-subject = together-kept (sound .bindings .sb .rule2) subject-stamped (sound .orders .rule10-subject);
             rule10-role = together-kept (role-turns d sound) role-stamped (sound .orders .rule10-role);
           };

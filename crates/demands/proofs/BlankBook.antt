@@ -9,7 +9,7 @@ use Rattle.sets.proofs.MaskLaws.{zero-none}
 use Rattle.chains.specs.Relation.{Step}
 use Rattle.rules.specs.Book.{SME, DME, RB, SB, juniors, tasksOf, rolesOf, active, orders, blank, read}
 use Rattle.rules.specs.Meaning.{CellWord, Pairs, Sound}
-use Rattle.demands.proofs.PlainKinds.{empty-cell}
+use Rattle.demands.proofs.UnopposedKinds.{empty-cell}
 
 -- It has no step at all, so no rule has anything to forbid.
 pub blank-sound : Sound blank

@@ -15,7 +15,8 @@ use Rattle.rules.specs.Book.{Book, SME, DME, juniors, rolesOf}
 use Rattle.rules.specs.Trade.{Owner, role, subject, ownsRole, ownedTasks}
 use Rattle.rules.specs.Requests.{Deed, change}
 use Rattle.rules.specs.Numbers.{Said, accepted, say, given, givenLowest, givenPair, Conflict, conflicts, firstOf, between, clashes, ownsBoth, gained}
-use Rattle.rules.specs.Numbers.{selfConstraint, alreadyDme, alreadySme, oneSubjectGroup, oneRoleGroup, roleOwnsBoth, subjectOwnsBoth, smeBetweenGroups, dmeBetweenGroups, selfInheritance, cycle, taskAssignment, roleAssignment, ownRoleAssignment}
+use Rattle.rules.specs.Numbers.{selfConstraint, alreadyDme, alreadySme, oneSubjectGroup, oneRoleGroup, roleOwnsBoth, subjectOwnsBoth}
+use Rattle.rules.specs.Numbers.{smeBetweenGroups, dmeBetweenGroups, selfInheritance, cycle, taskAssignment, roleAssignment, ownRoleAssignment}
 use Rattle.rules.specs.Meaning.{Sized, Sound, OwnedFrom}
 use Rattle.rules.proofs.Exactly.{Exactly, itself, exactly-and, exactly-eqb, exactly-meet, unless-holds}
 use Rattle.rules.proofs.NumberLaws.{given-out, given-in, lowest-out, lowest-in, pair-out, pair-in}
@@ -35,10 +36,10 @@ silent-as to from s rest = (λ e. let p = s rest .0 e in (to (p .0), p .1), λ p
 -- Every conflict is one test, a search for the lowest or a search for a pair, with its number n.
 module _ (n : ℕ) where
   -- A test that stands for P is silent where not P.
-  pub silent-test : {P : Type 0} (x y : ℕ) (t : Bool) → Exactly t P → Silent (P → ⊥) (given t (say n x y))
-  silent-test x y t e =
+  pub silent-test : {P : Type 0} (t : Bool) → Exactly t P → Silent (P → ⊥) (given t (say n))
+  silent-test t e =
       let u = unless-holds e in
-      silent-as (u .means) (u .fails) (λ rest. (given-out t n x y rest, λ p. given-in t (say n x y) rest (p .0) (p .1)))
+      silent-as (u .means) (u .fails) (λ rest. (given-out t n _ rest, λ p. given-in t (say n) rest (p .0) (p .1)))
 
   -- A search is silent where nothing below 64 is what it looks for.
   pub silent-lowest : (f : ℕ → Bool) {P : Subset} → ((i : ℕ) → i < 64 → Exactly (f i) (P i)) → Silent ((i : ℕ) → i < 64 → P i → ⊥) (givenLowest n f)
@@ -54,26 +55,26 @@ module _ (n : ℕ) where
       (λ rest. (pair-out n f rest, λ p. pair-in n f rest (p .0) (p .1)))
 
 -- A list of conflicts is silent exactly where P.
-abbrev pub AllSilent : List Conflict → Book → ℕ → ℕ → ℕ → Type 0 → Type 0
-AllSilent fs d a b c P = (firstOf fs d a b c ≡ accepted) ↔ P
+abbrev pub AllSilent : List Conflict → Book → ℕ → ℕ → Type 0 → Type 0
+AllSilent fs d a b P = (firstOf fs d a b ≡ accepted) ↔ P
 
 -- A list of one conflict is silent where that is ..
-pub one-silent : (f : Conflict) (d : Book) (a b c : ℕ) {P : Type 0} → Silent P (f d a b c) → AllSilent (f ∷ []) d a b c P
+pub one-silent : (f : Conflict) (d : Book) (a b : ℕ) {P : Type 0} → Silent P (f d a b) → AllSilent (f ∷ []) d a b P
 unfolding firstOf
-one-silent f d a b c s = (λ e. s accepted .0 e .0, λ p. s accepted .1 (p, refl))
+one-silent f d a b s = (λ e. s accepted .0 e .0, λ p. s accepted .1 (p, refl))
 
 -- .. and a longer list where the first is and the rest is.
-pub more-silent : (f : Conflict) (fs : List Conflict) (d : Book) (a b c : ℕ) {P Q : Type 0}
-    → Silent P (f d a b c) → AllSilent fs d a b c Q → AllSilent (f ∷ fs) d a b c (P × Q)
+pub more-silent : (f : Conflict) (fs : List Conflict) (d : Book) (a b : ℕ) {P Q : Type 0}
+    → Silent P (f d a b) → AllSilent fs d a b Q → AllSilent (f ∷ fs) d a b (P × Q)
 unfolding firstOf
-more-silent f fs d a b c s t = (λ e. let p = s _ .0 e in (p .0, t .0 (p .1)), λ p. s _ .1 (p .0, t .1 (p .1)))
+more-silent f fs d a b s t = (λ e. let p = s _ .0 e in (p .0, t .0 (p .1)), λ p. s _ .1 (p .0, t .1 (p .1)))
 
 -- What demand 3 says of one deed: no conflict is told exactly where the blindly changed book is sound.
 abbrev pub Exact : Book → Deed → ℕ → ℕ → ℕ → Type 0
-Exact d deed a b c = AllSilent (conflicts deed) d a b c (Sound (change d deed a b c))
+Exact d deed a b c = AllSilent (conflicts deed c) d a b (Sound (change d deed a b c))
 
 -- A deed is exact if what its conflicts ask is what the sound book needs.
-pub exact : (d : Book) (deed : Deed) (a b c : ℕ) {P : Type 0} → AllSilent (conflicts deed) d a b c P
+pub exact : (d : Book) (deed : Deed) (a b c : ℕ) {P : Type 0} → AllSilent (conflicts deed c) d a b P
     → (P → Sound (change d deed a b c)) → (Sound (change d deed a b c) → P) → Exact d deed a b c
 exact d deed a b c s keeps needs = (λ e. keeps (s .0 e), λ w. s .1 (needs w))
 
@@ -102,7 +103,8 @@ exactly-only {P} {Q} t m i x y = record { means = λ e. out t refl e; holds = λ
 
 module _ (d : Book) (sized : Sized d) where
   -- 25 and 26: an owner owns a and b.
-  silent-both : (n : ℕ) (start : Owner) → ((o : ℕ) → o < 64 → start o < 2 ^ 64) → (a b : ℕ) → Silent (NoneOwnsBoth d start a b) (givenLowest n (ownsBoth d start a b))
+  silent-both : (n : ℕ) (start : Owner) → ((o : ℕ) → o < 64 → start o < 2 ^ 64) → (a b : ℕ)
+      → Silent (NoneOwnsBoth d start a b) (givenLowest n (ownsBoth d start a b))
   silent-both n start fits a b =
       let owns = owner-shows d sized start fits in
       silent-lowest n (ownsBoth d start a b) (λ o h. exactly-and (owns .says o a h) (owns .says o b h))
@@ -117,7 +119,8 @@ module _ (d : Book) (sized : Sized d) where
 
   -- 31 and 32: an owner that is asked owns a task SME to one of the gain.
   module _ {Gain : Subset} (gain : ℕ) (small : gain < 2 ^ 64) (what : (v : ℕ) → Exactly (bit gain v) (Gain v)) where
-    silent-clashes : {Asked : Subset} (n : ℕ) (start : Owner) → ((o : ℕ) → o < 64 → start o < 2 ^ 64) → (asked : ℕ → Bool) → ((o : ℕ) → o < 64 → Exactly (asked o) (Asked o))
+    silent-clashes : {Asked : Subset} (n : ℕ) (start : Owner) → ((o : ℕ) → o < 64 → start o < 2 ^ 64)
+        → (asked : ℕ → Bool) → ((o : ℕ) → o < 64 → Exactly (asked o) (Asked o))
         → Silent (Unclashed (Sme d) (Owning d start) Asked Gain) (givenPair n (clashes d start asked gain))
     silent-clashes n start fits asked who =
         let owns = owner-shows d sized start fits in
@@ -125,64 +128,66 @@ module _ (d : Book) (sized : Sized d) where
         (λ g o h p u v q w x. g o u h (step-from (sized .rows SME) u v x) ((p, q), (v, x, what v .holds w)))
         (λ g o u h hu z. g o h (z .0 .0) u (z .1 .0) (z .0 .1) (what (z .1 .0) .means (z .1 .2)) (z .1 .1))
         (silent-pair n (clashes d start asked gain) (λ o u h hu.
-        exactly-and (exactly-only (asked o) (ownedTasks d (start o)) u (who o h) (owns .says o u h)) (exactly-meet (d .row SME u) gain (sized .rows SME .fits u) small)))
+        exactly-and
+        (exactly-only (asked o) (ownedTasks d (start o)) u (who o h) (owns .says o u h))
+        (exactly-meet (d .row SME u) gain (sized .rows SME .fits u) small)))
 
-  -- Each conflict, of the arguments a, b, c.
-  module _ (a b c : ℕ) where
+  -- Each conflict, of the arguments a and b.
+  module _ (a b : ℕ) where
     -- 20: a is b.
-    pub silent-self : Silent (a ≡ b → ⊥) (selfConstraint d a b c)
+    pub silent-self : Silent (a ≡ b → ⊥) (selfConstraint d a b)
     unfolding selfConstraint
-    silent-self = silent-test 20 0 0 (eqb a b) (exactly-eqb a b)
+    silent-self = silent-test 20 (eqb a b) (exactly-eqb a b)
 
     -- 21: a and b are DME.
-    pub silent-dme : Silent (Dme d a b → ⊥) (alreadyDme d a b c)
+    pub silent-dme : Silent (Dme d a b → ⊥) (alreadyDme d a b)
     unfolding alreadyDme
-    silent-dme = silent-test 21 0 0 _ (itself (bit (d .row DME a) b))
+    silent-dme = silent-test 21 _ (itself (bit (d .row DME a) b))
 
     -- 22: a and b are SME.
-    pub silent-sme : Silent (Sme d a b → ⊥) (alreadySme d a b c)
+    pub silent-sme : Silent (Sme d a b → ⊥) (alreadySme d a b)
     unfolding alreadySme
-    silent-sme = silent-test 22 0 0 _ (itself (bit (d .row SME a) b))
+    silent-sme = silent-test 22 _ (itself (bit (d .row SME a) b))
 
     -- 23: they lie in one subject group.
-    pub silent-subject-group : a < 64 → Silent (Chain (SubjectBound d) a b → ⊥) (oneSubjectGroup d a b c)
+    pub silent-subject-group : a < 64 → Silent (Chain (SubjectBound d) a b → ⊥) (oneSubjectGroup d a b)
     unfolding oneSubjectGroup
-    silent-subject-group ha = silent-test 23 0 0 _ (subject-group d sized .says a b ha)
+    silent-subject-group ha = silent-test 23 _ (subject-group d sized .says a b ha)
 
     -- 24: they lie in one role group.
-    pub silent-role-group : a < 64 → Silent (Chain (RoleBound d) a b → ⊥) (oneRoleGroup d a b c)
+    pub silent-role-group : a < 64 → Silent (Chain (RoleBound d) a b → ⊥) (oneRoleGroup d a b)
     unfolding oneRoleGroup
-    silent-role-group ha = silent-test 24 0 0 _ (role-group d sized .says a b ha)
+    silent-role-group ha = silent-test 24 _ (role-group d sized .says a b ha)
 
     -- 25: a role owns both.
-    pub silent-role-owns : Silent (NoneOwnsBoth d role a b) (roleOwnsBoth d a b c)
+    pub silent-role-owns : Silent (NoneOwnsBoth d role a b) (roleOwnsBoth d a b)
     unfolding roleOwnsBoth
     silent-role-owns = silent-both 25 role (role-lt d sized) a b
 
     -- 26: a subject owns both.
-    pub silent-subject-owns : Silent (NoneOwnsBoth d (subject d) a b) (subjectOwnsBoth d a b c)
+    pub silent-subject-owns : Silent (NoneOwnsBoth d (subject d) a b) (subjectOwnsBoth d a b)
     unfolding subjectOwnsBoth
     silent-subject-owns = silent-both 26 (subject d) (subject-lt d sized) a b
 
     -- 27: SME leads from a's role group to b's.
-    pub silent-sme-groups : a < 64 → b < 64 → Silent (GroupsApart (Sme d) (RoleBound d) a b) (smeBetweenGroups d a b c)
+    pub silent-sme-groups : a < 64 → b < 64 → Silent (GroupsApart (Sme d) (RoleBound d) a b) (smeBetweenGroups d a b)
     unfolding smeBetweenGroups
     silent-sme-groups ha hb = silent-between 27 SME _ _ (λ u. role-group d sized .says a u ha) (λ v. role-group d sized .says b v hb)
 
     -- 28: DME leads from a's subject group to b's.
-    pub silent-dme-groups : a < 64 → b < 64 → Silent (GroupsApart (Dme d) (SubjectBound d) a b) (dmeBetweenGroups d a b c)
+    pub silent-dme-groups : a < 64 → b < 64 → Silent (GroupsApart (Dme d) (SubjectBound d) a b) (dmeBetweenGroups d a b)
     unfolding dmeBetweenGroups
     silent-dme-groups ha hb = silent-between 28 DME _ _ (λ u. subject-group d sized .says a u ha) (λ v. subject-group d sized .says b v hb)
 
     -- 29, of kind 9: a is b.
-    pub silent-self-inheritance : Silent (a ≡ b → ⊥) (selfInheritance d a b c)
+    pub silent-self-inheritance : Silent (a ≡ b → ⊥) (selfInheritance d a b)
     unfolding selfInheritance
-    silent-self-inheritance = silent-test 29 0 0 (eqb a b) (exactly-eqb a b)
+    silent-self-inheritance = silent-test 29 (eqb a b) (exactly-eqb a b)
 
     -- 30: a reaches b.
-    pub silent-cycle : a < 64 → Silent (Reaches (Junior d) a b → ⊥) (cycle d a b c)
+    pub silent-cycle : a < 64 → Silent (Reaches (Junior d) a b → ⊥) (cycle d a b)
     unfolding cycle
-    silent-cycle ha = silent-test 30 0 0 _ (reach-shows d sized .says a b ha)
+    silent-cycle ha = silent-test 30 _ (reach-shows d sized .says a b ha)
 
     -- The gain of kinds 8 to 10, as it is computed; m is the table.
     module _ {Gain : Subset} (m : ℕ) (small : gained d m a < 2 ^ 64) (what : (v : ℕ) → Exactly (bit (gained d m a) v) (Gain v)) where
@@ -193,17 +198,17 @@ module _ (d : Book) (sized : Sized d) where
           record { means = below-out d sized (start o) b; holds = below-in d sized (start o) b (fits o h) })
 
       -- 31: of the roles, b and its seniors.
-      pub silent-task-assignment : Silent (Unclashed (Sme d) (Owning d role) (OwnsRole d role b) Gain) (taskAssignment m d a b c)
+      pub silent-task-assignment : Silent (Unclashed (Sme d) (Owning d role) (OwnsRole d role b) Gain) (taskAssignment m d a b)
       unfolding taskAssignment
       silent-task-assignment = silent-owners 31 role (role-lt d sized)
 
       -- 32, of kinds 8 and 9: of the subjects.
-      pub silent-role-assignment : Silent (Unclashed (Sme d) (Owning d (subject d)) (OwnsRole d (subject d) b) Gain) (roleAssignment m d a b c)
+      pub silent-role-assignment : Silent (Unclashed (Sme d) (Owning d (subject d)) (OwnsRole d (subject d) b) Gain) (roleAssignment m d a b)
       unfolding roleAssignment
       silent-role-assignment = silent-owners 32 (subject d) (subject-lt d sized)
 
     -- 32, of kind 10: of subject b alone.
     pub silent-own-assignment : {Gain : Subset} → gained d rolesOf a < 2 ^ 64 → ((v : ℕ) → Exactly (bit (gained d rolesOf a) v) (Gain v))
-        → Silent (Unclashed (Sme d) (Owning d (subject d)) (λ o. b ≡ o) Gain) (ownRoleAssignment d a b c)
+        → Silent (Unclashed (Sme d) (Owning d (subject d)) (λ o. b ≡ o) Gain) (ownRoleAssignment d a b)
     unfolding ownRoleAssignment
     silent-own-assignment small what = silent-clashes (gained d rolesOf a) small what 32 (subject d) (subject-lt d sized) (eqb b) (λ o h. exactly-eqb b o)

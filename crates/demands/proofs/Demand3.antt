@@ -1,58 +1,28 @@
 -- Demand 3, proved. On tables the way is short: a book that passes the audit is sound, every kind is exact on a sound
 -- book, and the audit passes exactly on sound books. Words and tables are the same thing by reading and writing.
 use mathlib.Core.Path.{_≡_, refl, sym, ap, _∙_, subst}
-use mathlib.Core.Logic.{_↔_, inl, inr}
-use Prim.Native.Nat.{ℕ, _+_, _*_, _^_, _<_}
-use native.Mathlib.Omega.{arith}
-use native.Mathlib.Decide.{decLt}
+use mathlib.Core.Logic.{_↔_}
+use Prim.Native.Nat.{ℕ}
 use lib.Pow.{pow-pos}
 use Rattle.rules.specs.Book.{Book, bookWords, read}
 use Rattle.rules.specs.Requests.{Request}
-use Rattle.rules.specs.Numbers.{Said, accepted, say, given, refusal, conflict, judge, blind, answer, wordsAfter}
-use Rattle.rules.specs.Audit.{audit, audited}
+use Rattle.rules.specs.Numbers.{Said, accepted, says, given, refusal, conflict, judge, blind, answer, wordsAfter}
+use Rattle.rules.specs.Audit.{audit}
 use Rattle.rules.specs.Meaning.{Sized}
 use Rattle.rules.proofs.NumberLaws.{refusal-out, judge-out, judge-in}
-use Rattle.rules.proofs.BookLaws.{read-head, read-row, read-no-head, read-no-row, read-no-cell, read-placed, read-write}
-use Rattle.rules.proofs.ChangeLaws.{known-row, blind-sized, blind-placed}
+use Rattle.rules.proofs.BookLaws.{read-sized}
+use Rattle.rules.proofs.ChangeLaws.{known-row, blind-sized, changed-book}
 use Rattle.rules.proofs.WordLaws.{well-formed}
 use Rattle.rules.proofs.AuditLaws.{sound-formed, audit-sound, sound-audit}
+use Rattle.rules.proofs.AuditedLaws.{whole-audit}
 use Rattle.demands.specs.Demand3 as demand
 use Rattle.demands.proofs.BlankBook.{blank-sound}
 use Rattle.demands.proofs.EveryKind.{deed-exact}
 
--- Of a book of 4,676 words the audit is that of its tables ..
-whole-audit : (w : ℕ → ℕ) → audited bookWords w ≡ audit (read w)
-unfolding audited given
-whole-audit w = refl
-
--- .. and so is the answer.
+-- Of a book of 4,676 words the answer is that of its tables.
 whole-answer : (w : ℕ → ℕ) (q : Request) → answer bookWords w q ≡ judge (read w) q
 unfolding answer given
 whole-answer w q = refl
-
--- A book of 64-bit words has tables of 64 rows of 64 bits.
-book-sized : (w : ℕ → ℕ) → demand.Fits w → Sized (read w)
-book-sized w fit = record {
-  head = record { fits = λ i. head i (decLt i 4); ends = λ i h. read-no-head w i (omega arith) };
-  rows = λ n. record { fits = λ r. row n r (decLt n 9) (decLt r 64); ends = λ r h. read-no-row w n r (inr h) };
-  cells = read-no-cell w;
-}
-  where
-    small : {x y : ℕ} → y ≡ x → x < 2 ^ 64 → y < 2 ^ 64
-    small e h = rw e h
-
-    head : (i : ℕ) → Dec (i < 4) → read w .head i < 2 ^ 64
-    head i (yes h) = small (read-head w i h) (fit i (omega arith))
-    head i (no h) = small (read-no-head w i (omega arith)) (pow-pos 64)
-
-    row : (n r : ℕ) → Dec (n < 9) → Dec (r < 64) → read w .row n r < 2 ^ 64
-    row n r (yes h) (yes l) = small (read-row w n r h l) (fit (4 + 64 * n + r) (omega arith))
-    row n r (yes h) (no l) = small (read-no-row w n r (inr (omega arith))) (pow-pos 64)
-    row n r (no h) l = small (read-no-row w n r (inl (omega arith))) (pow-pos 64)
-
--- The blindly changed words are those of the blindly changed book.
-changed-book : (w : ℕ → ℕ) (q : Request) → Sized (read w) → demand.Unrefused w q → read (demand.changed w q) ≡ blind (read w) q
-changed-book w q sized e = read-write (blind (read w) q) (blind-sized q sized e) (blind-placed q sized e (read-placed w))
 
 -- Statement 1, of the tables.
 book-exact : (d : Book) → Sized d → audit d ≡ accepted → (q : Request) → refusal d q ≡ accepted → (audit (blind d q) ≡ accepted) ↔ (judge d q ≡ accepted)
@@ -60,7 +30,7 @@ unfolding blind conflict
 book-exact d sized passes q e =
     let sound = audit-sound d sized passes in
     let u = refusal-out d q e in
-    let x = deed-exact d sized sound (q .a) (q .b) (q .c) (known-row (q .kind) (u .known)) (u .fitting) (u .state) in
+    let x = deed-exact d sized sound (q .a) (q .b) (q .c) (known-row (q .kind)) (u .fitting) (u .state) in
     let sized′ = blind-sized q sized e in (
       λ p. judge-in d q (well-formed d sized .fails (sound-formed d sound)) e (x .1 (audit-sound (blind d q) sized′ p)),
       λ p. sound-audit (blind d q) sized′ (x .0 (judge-out d q p .2)),
@@ -75,7 +45,7 @@ words-exact w sized passes q e =
 
 -- STATEMENT 1: the checks are exact.
 pub checks-exact : demand.ChecksExact
-checks-exact w fit = words-exact w (book-sized w fit)
+checks-exact w fit = words-exact w (read-sized w fit)
 
 -- STATEMENT 2: the kept book is the changed one where the request is accepted, and else untouched.
 pub book-kept : demand.BookKept
@@ -84,7 +54,7 @@ book-kept w q = (λ e i. ap (λ (s : Said). wordsAfter s w q i) e, λ f i. untou
   where
     untouched : (s : Said) → (s ≡ accepted → ⊥) → (i : ℕ) → wordsAfter s w q i ≡ w i
     untouched accepted f i = absurd (f refl)
-    untouched (say n x y) f i = refl
+    untouched (says n r) f i = refl
 
 -- A step from a book that passes leads to one that passes: an accepted request changes it soundly, any other leaves it.
 step-passes : (w : ℕ → ℕ) (q : Request) → Sized (read w) → demand.Passes w → Sized (read (demand.kept w q)) × demand.Passes (demand.kept w q)
@@ -95,12 +65,12 @@ step-passes w q sized passes = go (answer bookWords w q) refl
     go accepted e =
         let u = judge-out (read w) q (sym (whole-answer w q) ∙ e) .1 in
         (subst (λ (d : Book). Sized d) (sym (changed-book w q sized u)) (blind-sized q sized u), words-exact w sized passes q u .1 e)
-    go (say n x y) e = (sized, passes)
+    go (says n r) e = (sized, passes)
 
 -- So every run of requests does.
 run-passes : (w : ℕ → ℕ) → demand.Reached w → Sized (read w) × demand.Passes w
 run-passes w demand.blank =
-    let sized = book-sized (λ i. 0) (λ i h. pow-pos 64) in
+    let sized = read-sized (λ i. 0) (λ i h. pow-pos 64) in
     (sized, whole-audit (λ i. 0) ∙ sound-audit (read (λ i. 0)) sized blank-sound)
 run-passes w (demand.then {w = v} q r) = let p = run-passes v r in step-passes v q (p .0) (p .1)
 

@@ -14,13 +14,14 @@ use Rattle.rules.specs.Book.{Book, tasks, active, orders}
 use Rattle.rules.specs.Requests.{Row, isOpen, fits}
 use Rattle.rules.specs.Numbers.{accepted, givenLowest, activeOwned, allocateRefusal, stateRefusal}
 use Rattle.rules.specs.Meaning.{Sized, Sound}
+use Rattle.rules.proofs.SaidLaws.{said-not-accepted}
 use Rattle.rules.proofs.NumberLaws.{given-out, lowest-out, Fitting}
-use Rattle.rules.proofs.ChangeLaws.{Known, defines, relates, assigns, activates, opens, allocates, closes, takes-back, a-task, a-junior, a-role}
+use Rattle.rules.proofs.ChangeLaws.{Known, no-kind, defines, relates, assigns, activates, opens, allocates, closes, takes-back, a-task, a-junior, a-role}
 use Rattle.rules.proofs.TradeLaws.{step-from}
 use Rattle.demands.proofs.Conflicts.{Exact}
 use Rattle.demands.proofs.PairKinds.{relate-exact}
 use Rattle.demands.proofs.StaffKinds.{assign-task, assign-junior, assign-role}
-use Rattle.demands.proofs.PlainKinds.{define-exact, activate-exact, open-exact, close-exact}
+use Rattle.demands.proofs.UnopposedKinds.{define-exact, activate-exact, open-exact, close-exact}
 use Rattle.demands.proofs.TakenBack.{take-exact}
 use Rattle.demands.proofs.Allocation.{allocate-exact}
 
@@ -43,11 +44,12 @@ module _ (d : Book) (sized : Sized d) (sound : Sound d) (a b c : ℕ) where
   -- Every row of the table of seventeen is exact.
   pub deed-exact : {row : Row} → Known row → Fitting d row a b c → stateRefusal d (row .deed) a b c ≡ accepted → Exact d (row .deed) a b c
   unfolding fits stateRefusal allocateRefusal
+  deed-exact no-kind f e = absurd (said-not-accepted e)
   deed-exact (defines n h) f e = define-exact d sound a b c n h
   deed-exact (relates n h) f e =
       let x = defined _ a (f .first) in
       let y = defined _ b (f .second) in
-      relate-exact d sized sound a b c (x .0) (y .0) (x .1) (y .1) (shut (given-out (bit (d .row n a) b) 5 0 0 _ e .1)) n h
+      relate-exact d sized sound a b c (x .0) (y .0) (x .1) (y .1) (shut (given-out (bit (d .row n a) b) 5 _ _ e .1)) n h
   deed-exact (assigns a-task) f e = let x = defined _ a (f .first) in assign-task d sized sound a b c (x .0) (x .1) (defined _ b (f .second) .1)
   deed-exact (assigns a-junior) f e = let x = defined _ a (f .first) in assign-junior d sized sound a b c (x .0) (x .1) (defined _ b (f .second) .1)
   deed-exact (assigns a-role) f e = let x = defined _ a (f .first) in assign-role d sized sound a b c (x .0) (x .1) (defined _ b (f .second) .1)
@@ -55,8 +57,8 @@ module _ (d : Book) (sized : Sized d) (sound : Sound d) (a b c : ℕ) where
   deed-exact opens f e = open-exact d sound a b c (λ t. within-out c (tasks d) t (and-out (not (eqb c 0)) (within c (tasks d)) (f .third) .1))
   deed-exact allocates f e =
       let z = defined _ c (f .third) in
-      let r = given-out (not (bit (d .row orders b) a)) 4 1 0 _ e in
-      let s = given-out (not (activeOwned d c)) 8 0 0 _ (r .1) in
+      let r = given-out (not (bit (d .row orders b) a)) 4 _ _ e in
+      let s = given-out (not (activeOwned d c)) 8 _ _ (r .1) in
       allocate-exact d sized sound a b c (defined _ a (f .first) .0) (z .0) (d .row active c - 1) (has-role (not-false _ (s .0))) (z .1)
   deed-exact closes f e = close-exact d sound a b c
   deed-exact (takes-back h) f e = take-exact d sound a b c h

@@ -6,7 +6,7 @@ pub mod Conflicts
 pub mod PairKinds
 pub mod StaffKinds
 pub mod Allocation
-pub mod PlainKinds
+pub mod UnopposedKinds
 pub mod TakenBack
 pub mod BlankBook
 pub mod EveryKind

@@ -8,13 +8,16 @@ use Rattle.chains.proofs.RelationLaws.{chain-turn}
 use Rattle.rules.specs.Book.{Book, tasks, roles, subjects, SME, DME, RB, SB, orders}
 use Rattle.rules.specs.Trade.{Owner, role, subject}
 use Rattle.rules.specs.Requests.{relate, addPair, change}
-use Rattle.rules.specs.Numbers.{pairConflicts, conflicts}
-use Rattle.rules.specs.Numbers.{selfConstraint, alreadyDme, alreadySme, oneSubjectGroup, oneRoleGroup, roleOwnsBoth, subjectOwnsBoth, smeBetweenGroups, dmeBetweenGroups}
+use Rattle.rules.specs.Numbers.{smeConflicts, dmeConflicts, rbConflicts, sbConflicts, byTable, pairConflicts, conflicts}
+use Rattle.rules.specs.Numbers.{selfConstraint, alreadyDme, alreadySme, oneSubjectGroup, oneRoleGroup, roleOwnsBoth, subjectOwnsBoth}
+use Rattle.rules.specs.Numbers.{smeBetweenGroups, dmeBetweenGroups}
 use Rattle.rules.specs.Meaning.{Sized, PairFree, OwnedFrom, OwnersFree, Orders, Sound}
 use Rattle.demands.proofs.PairRules.{Adds, pair-kept, pair-needed, groups-kept, groups-needed, groups-pair}
 use Rattle.demands.proofs.RowChanges.{pair-adds, pair-table, pair-two}
 use Rattle.demands.proofs.Tables.{first-adds, second-adds, subject-role, role-turns}
-use Rattle.demands.proofs.Conflicts.{one-silent, more-silent, Exact, exact, NoneOwnsBoth, silent-self, silent-dme, silent-sme, silent-subject-group, silent-role-group, silent-role-owns, silent-subject-owns, silent-sme-groups, silent-dme-groups}
+use Rattle.demands.proofs.Conflicts.{one-silent, more-silent, Exact, exact, NoneOwnsBoth, silent-self, silent-dme, silent-sme}
+use Rattle.demands.proofs.Conflicts.{silent-subject-group, silent-role-group, silent-role-owns, silent-subject-owns, silent-sme-groups}
+use Rattle.demands.proofs.Conflicts.{silent-dme-groups}
 
 -- Where no order is open, orders and cells are well-formed and keep rules 9 and 10 whatever the pair tables are.
 module _ {T R S : ℕ} {x y r s o : ℕ → ℕ} {cell : ℕ → ℕ → ℕ} (shut : (p t : ℕ) → Step o p t → ⊥) where
@@ -53,15 +56,15 @@ module _ (d : Book) (sized : Sized d) (sound : Sound d) (a b c : ℕ) (ha : a < 
 
   -- Kind 4, SME: rules 3, 4, 7 and 8 ask of the new pair alone (21, 24, 25, 26). 23 is a case of 24.
   relate-sme : Exact d (relate SME) a b c
-  unfolding change conflicts pairConflicts
+  unfolding change conflicts pairConflicts byTable smeConflicts
   relate-sme =
       exact d (relate SME) a b c
-      (more-silent selfConstraint _ d a b c (silent-self d sized a b c)
-      (more-silent alreadyDme _ d a b c (silent-dme d sized a b c)
-      (more-silent oneSubjectGroup _ d a b c (silent-subject-group d sized a b c ha)
-      (more-silent oneRoleGroup _ d a b c (silent-role-group d sized a b c ha)
-      (more-silent roleOwnsBoth _ d a b c (silent-role-owns d sized a b c)
-      (one-silent subjectOwnsBoth d a b c (silent-subject-owns d sized a b c)))))))
+      (more-silent selfConstraint _ d a b (silent-self d sized a b)
+      (more-silent alreadyDme _ d a b (silent-dme d sized a b)
+      (more-silent oneSubjectGroup _ d a b (silent-subject-group d sized a b ha)
+      (more-silent oneRoleGroup _ d a b (silent-role-group d sized a b ha)
+      (more-silent roleOwnsBoth _ d a b (silent-role-owns d sized a b)
+      (one-silent subjectOwnsBoth d a b (silent-subject-owns d sized a b)))))))
       (λ (two, (dme, (sb, (mixed, (roles, subjects))))). record {
         gap = sound .gap;
         bindings = record {
@@ -91,12 +94,12 @@ module _ (d : Book) (sized : Sized d) (sound : Sound d) (a b c : ℕ) (ha : a < 
 
   -- Kind 5, DME: rules 3 and 5 ask of the new pair alone (22, 23).
   relate-dme : Exact d (relate DME) a b c
-  unfolding change conflicts pairConflicts
+  unfolding change conflicts pairConflicts byTable dmeConflicts
   relate-dme =
       exact d (relate DME) a b c
-      (more-silent selfConstraint _ d a b c (silent-self d sized a b c)
-      (more-silent alreadySme _ d a b c (silent-sme d sized a b c)
-      (one-silent oneSubjectGroup d a b c (silent-subject-group d sized a b c ha))))
+      (more-silent selfConstraint _ d a b (silent-self d sized a b)
+      (more-silent alreadySme _ d a b (silent-sme d sized a b)
+      (one-silent oneSubjectGroup d a b (silent-subject-group d sized a b ha))))
       (λ (two, (sme, sb)). record {
         gap = sound .gap;
         bindings = record {
@@ -123,13 +126,13 @@ module _ (d : Book) (sized : Sized d) (sound : Sound d) (a b c : ℕ) (ha : a < 
 
   -- Kind 6, RB: role groups grow together, so rule 4 asks of a's role group and b's (27). 22 is a case of 27.
   relate-rb : Exact d (relate RB) a b c
-  unfolding change conflicts pairConflicts
+  unfolding change conflicts pairConflicts byTable rbConflicts
   relate-rb =
       let grown = second-adds (d .row SB) (d .row RB) (now RB) (adds RB) in
       exact d (relate RB) a b c
-      (more-silent selfConstraint _ d a b c (silent-self d sized a b c)
-      (more-silent alreadySme _ d a b c (silent-sme d sized a b c)
-      (one-silent smeBetweenGroups d a b c (silent-sme-groups d sized a b c ha hb))))
+      (more-silent selfConstraint _ d a b (silent-self d sized a b)
+      (more-silent alreadySme _ d a b (silent-sme d sized a b)
+      (one-silent smeBetweenGroups d a b (silent-sme-groups d sized a b ha hb))))
       (λ (two, (sme, groups)). record {
         gap = sound .gap;
         bindings = record {
@@ -151,15 +154,15 @@ module _ (d : Book) (sized : Sized d) (sound : Sound d) (a b c : ℕ) (ha : a < 
 
   -- Kind 7, SB: both groups grow together, so rules 4 and 5 ask of a's groups and b's (27, 28). 22 is a case of 27, and 21 of 28.
   relate-sb : Exact d (relate SB) a b c
-  unfolding change conflicts pairConflicts
+  unfolding change conflicts pairConflicts byTable sbConflicts
   relate-sb =
       let grown = first-adds (d .row SB) (now SB) (d .row RB) (adds SB) in
       exact d (relate SB) a b c
-      (more-silent selfConstraint _ d a b c (silent-self d sized a b c)
-      (more-silent alreadyDme _ d a b c (silent-dme d sized a b c)
-      (more-silent alreadySme _ d a b c (silent-sme d sized a b c)
-      (more-silent smeBetweenGroups _ d a b c (silent-sme-groups d sized a b c ha hb)
-      (one-silent dmeBetweenGroups d a b c (silent-dme-groups d sized a b c ha hb))))))
+      (more-silent selfConstraint _ d a b (silent-self d sized a b)
+      (more-silent alreadyDme _ d a b (silent-dme d sized a b)
+      (more-silent alreadySme _ d a b (silent-sme d sized a b)
+      (more-silent smeBetweenGroups _ d a b (silent-sme-groups d sized a b ha hb)
+      (one-silent dmeBetweenGroups d a b (silent-dme-groups d sized a b ha hb))))))
       (λ (two, (dme, (sme, (role-groups, subject-groups)))). record {
         gap = sound .gap;
         bindings = record {

@@ -50,7 +50,9 @@ module _ (rows : ℕ → ℕ) (b a : ℕ) where
       new v (inr e) = subst (λ (x : ℕ). Under (Step rows) b a b x) e new-step
 
       out : (u v : ℕ) → Step (addTo rows b a) u v → Under (Step rows) b a u v
-      out = set-cases rows b (with (rows b) a) (λ s x. (v : ℕ) → In x v → Under (Step rows) b a s v) (λ v e. new v (with-out (rows b) a v e)) (λ s n v e. old-step e)
+      out = set-cases rows b (with (rows b) a) (λ s x. (v : ℕ) → In x v → Under (Step rows) b a s v)
+          (λ v e. new v (with-out (rows b) a v e))
+          (λ s n v e. old-step e)
 
       into : (u v : ℕ) → Under (Step rows) b a u v → Step (addTo rows b a) u v
       into u v (old-step e) = add-old u v e

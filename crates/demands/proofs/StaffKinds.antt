@@ -12,15 +12,17 @@ use Rattle.chains.proofs.RelationLaws.{chain-map, old-step, new-step, cycle-cas
 use Rattle.rules.specs.Book.{Book, tasks, roles, subjects, juniors, tasksOf, rolesOf, active}
 use Rattle.rules.specs.Trade.{Owner, role, subject, ownedTasks}
 use Rattle.rules.specs.Requests.{assign, addTo, setTable, firstActive, assigned, change}
-use Rattle.rules.specs.Numbers.{assignConflicts, conflicts, selfInheritance, cycle, taskAssignment, roleAssignment, ownRoleAssignment}
+use Rattle.rules.specs.Numbers.{selfInheritance, cycle, taskAssignment, roleAssignment, ownRoleAssignment}
+use Rattle.rules.specs.Numbers.{taskConflicts, juniorConflicts, roleConflicts, byTable, assignConflicts, conflicts}
 use Rattle.rules.specs.Meaning.{Sized, Symmetric, NoCycle, PairFree, Owned, OwnedFrom, OwnersFree, Sound}
 use Rattle.rules.proofs.Exactly.{Exactly, itself}
 use Rattle.rules.proofs.TradeLaws.{role-lt, owned-lt, owner-shows}
 use Rattle.demands.proofs.RowChanges.{Gets, add-gets, add-between}
 use Rattle.demands.proofs.Tables.{Sme, Junior, Given}
 use Rattle.demands.proofs.Owners.{Grows, owners-kept, owners-needed, task-grows, junior-grows, role-grows}
-use Rattle.demands.proofs.Conflicts.{one-silent, more-silent, Exact, exact, Owning, OwnsRole, silent-self-inheritance, silent-cycle, silent-task-assignment, silent-role-assignment, silent-own-assignment}
-use Rattle.demands.proofs.PlainKinds.{activated}
+use Rattle.demands.proofs.Conflicts.{one-silent, more-silent, Exact, exact, Owning, OwnsRole, silent-self-inheritance, silent-cycle}
+use Rattle.demands.proofs.Conflicts.{silent-task-assignment, silent-role-assignment, silent-own-assignment}
+use Rattle.demands.proofs.UnopposedKinds.{activated}
 
 -- A chain is empty, or reaches.
 chain-reaches : {E : Relation} {i j : ℕ} → Chain E i j → (i ≡ j) ⊎ Reaches E i j
@@ -31,7 +33,9 @@ chain-reaches (more {j = k} c e) = inr (record { before = k; way = c; last = e }
 module _ {J J′ : Relation} {b a : ℕ} (grown : Gets b a J J′) where
   -- Rule 6 is kept where a is not b and does not reach it ..
   cycle-kept : NoCycle J → (a ≡ b → ⊥) → (Reaches J a b → ⊥) → NoCycle J′
-  cycle-kept rule two far r w = go (cycle-cases J b a r (record { before = w .before; way = chain-map (grown .out) (w .way); last = grown .out (w .before) r (w .last) }))
+  cycle-kept rule two far r w =
+      go (cycle-cases J b a r
+      (record { before = w .before; way = chain-map (grown .out) (w .way); last = grown .out (w .before) r (w .last) }))
     where
       apart : (a ≡ b) ⊎ Reaches J a b → ⊥
       apart (inl e) = two e
@@ -73,11 +77,11 @@ module _ (d : Book) (sized : Sized d) (sound : Sound d) (a b c : ℕ) (ha : a < 
 
   -- Kind 8: task a is given to role b.
   pub assign-task : In (tasks d) a → In (roles d) b → Exact d (assign tasksOf) a b c
-  unfolding change assigned conflicts assignConflicts
+  unfolding change assigned conflicts assignConflicts byTable taskConflicts
   assign-task da db =
       exact d (assign tasksOf) a b c
-      (more-silent (taskAssignment tasksOf) _ d a b c (silent-task-assignment d sized a b c tasksOf (pow-lt ha) (λ v. itself (bit (2 ^ a) v)))
-      (one-silent (roleAssignment tasksOf) d a b c (silent-role-assignment d sized a b c tasksOf (pow-lt ha) (λ v. itself (bit (2 ^ a) v)))))
+      (more-silent (taskAssignment tasksOf) _ d a b (silent-task-assignment d sized a b tasksOf (pow-lt ha) (λ v. itself (bit (2 ^ a) v)))
+      (one-silent (roleAssignment tasksOf) d a b (silent-role-assignment d sized a b tasksOf (pow-lt ha) (λ v. itself (bit (2 ^ a) v)))))
       (λ (roles, subjects). record {
         gap = sound .gap;
         bindings = sound .bindings;
@@ -99,13 +103,13 @@ module _ (d : Book) (sized : Sized d) (sound : Sound d) (a b c : ℕ) (ha : a < 
 
   -- Kind 9: role a becomes a direct junior of role b.
   pub assign-junior : In (roles d) a → In (roles d) b → Exact d (assign juniors) a b c
-  unfolding change assigned conflicts assignConflicts
+  unfolding change assigned conflicts assignConflicts byTable juniorConflicts
   assign-junior da db =
       exact d (assign juniors) a b c
-      (more-silent selfInheritance _ d a b c (silent-self-inheritance d sized a b c)
-      (more-silent cycle _ d a b c (silent-cycle d sized a b c ha)
-      (more-silent (taskAssignment juniors) _ d a b c (silent-task-assignment d sized a b c juniors (owned-lt d sized (role a)) of-role)
-      (one-silent (roleAssignment juniors) d a b c (silent-role-assignment d sized a b c juniors (owned-lt d sized (role a)) of-role)))))
+      (more-silent selfInheritance _ d a b (silent-self-inheritance d sized a b)
+      (more-silent cycle _ d a b (silent-cycle d sized a b ha)
+      (more-silent (taskAssignment juniors) _ d a b (silent-task-assignment d sized a b juniors (owned-lt d sized (role a)) of-role)
+      (one-silent (roleAssignment juniors) d a b (silent-role-assignment d sized a b juniors (owned-lt d sized (role a)) of-role)))))
       (λ (two, (far, (roles, subjects))). record {
         gap = sound .gap;
         bindings = sound .bindings;
@@ -130,10 +134,10 @@ module _ (d : Book) (sized : Sized d) (sound : Sound d) (a b c : ℕ) (ha : a < 
 
   -- Kind 10: role a is given to subject b, and becomes active if b has no active role; v is b's active word.
   pub assign-role : In (roles d) a → In (subjects d) b → Exact d (assign rolesOf) a b c
-  unfolding change assigned firstActive conflicts assignConflicts
+  unfolding change assigned firstActive conflicts assignConflicts byTable roleConflicts
   assign-role da db =
       exact d (assign rolesOf) a b c
-      (one-silent ownRoleAssignment d a b c (silent-own-assignment d sized a b c (owned-lt d sized (role a)) of-role))
+      (one-silent ownRoleAssignment d a b (silent-own-assignment d sized a b (owned-lt d sized (role a)) of-role))
       (λ free. with-active (d .row active b) (record {
         gap = sound .gap;
         bindings = sound .bindings;

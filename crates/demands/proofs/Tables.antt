@@ -1,8 +1,7 @@
 -- The tables of a book as the relations that its rules speak of, and the two that are made of two tables:
 -- "excludes", of SME and DME, and "bound for the role", of SB and RB mixed.
-use mathlib.Core.Logic.{_⊎_, inl, inr}
+use mathlib.Core.Logic.{inl, inr}
 use Prim.Native.Nat.{ℕ}
-use Rattle.sets.proofs.MaskLaws.{in-l, in-r, in-cases}
 use Rattle.chains.specs.Relation.{Relation, Step, Chain}
 use Rattle.chains.proofs.RelationLaws.{chain-map, Tied, old, there, back}
 use Rattle.rules.specs.Book.{Book, SME, DME, RB, SB, juniors, tasksOf}
@@ -37,23 +36,6 @@ Junior d = Step (d .row juniors)
 abbrev pub Given : Book → Relation
 Given d = Step (d .row tasksOf)
 
--- A step of two tables mixed is a step of either ..
-mixed-out : (s r : ℕ → ℕ) (u v : ℕ) → Mixed s r u v → Step s u v ⊎ Step r u v
-mixed-out s r u v e = in-cases (s u) (r u) v e
-
--- .. and back.
-mixed-in : (s r : ℕ → ℕ) (u v : ℕ) → Step s u v ⊎ Step r u v → Mixed s r u v
-mixed-in s r u v (inl e) = in-l (s u) (r u) v e
-mixed-in s r u v (inr e) = in-r (s u) (r u) v e
-
--- The two tables may change places.
-mixed-swap : (s r : ℕ → ℕ) (u v : ℕ) → Mixed s r u v → Mixed r s u v
-mixed-swap s r u v e = go (mixed-out s r u v e)
-  where
-    go : Step s u v ⊎ Step r u v → Mixed r s u v
-    go (inl q) = mixed-in r s u v (inr q)
-    go (inr q) = mixed-in r s u v (inl q)
-
 -- A pair tied to a relation is tied to a wider one.
 tied-map : {X Y : Relation} {a b : ℕ} → ((u v : ℕ) → X u v → Y u v) → (u v : ℕ) → Tied X a b u v → Tied Y a b u v
 tied-map f u v (old e) = old (f u v e)
@@ -62,42 +44,40 @@ tied-map f u v back = back
 
 -- Where the first of the mixed tables gets a pair, the mixed relation gets it ..
 pub first-adds : {a b : ℕ} (s s′ r : ℕ → ℕ) → Adds a b (Step s) (Step s′) → Adds a b (Mixed s r) (Mixed s′ r)
-first-adds {a} {b} s s′ r grown = record { out = λ u v e. out u v (mixed-out s′ r u v e); into = into }
+first-adds {a} {b} s s′ r grown = record { out = out; into = into }
   where
-    out : (u v : ℕ) → Step s′ u v ⊎ Step r u v → Tied (Mixed s r) a b u v
-    out u v (inl e) = tied-map (λ u v q. mixed-in s r u v (inl q)) u v (grown .out u v e)
-    out u v (inr e) = old (mixed-in s r u v (inr e))
-
-    keep : (u v : ℕ) → Step s u v ⊎ Step r u v → Mixed s′ r u v
-    keep u v (inl e) = mixed-in s′ r u v (inl (grown .into u v (old e)))
-    keep u v (inr e) = mixed-in s′ r u v (inr e)
+    out : (u v : ℕ) → Mixed s′ r u v → Tied (Mixed s r) a b u v
+    out u v (inl e) = tied-map (λ u v q. inl q) u v (grown .out u v e)
+    out u v (inr e) = old (inr e)
 
     into : (u v : ℕ) → Tied (Mixed s r) a b u v → Mixed s′ r u v
-    into u v (old e) = keep u v (mixed-out s r u v e)
-    into u v there = mixed-in s′ r a b (inl (grown .into a b there))
-    into u v back = mixed-in s′ r b a (inl (grown .into b a back))
+    into u v (old (inl e)) = inl (grown .into u v (old e))
+    into u v (old (inr e)) = inr e
+    into u v there = inl (grown .into a b there)
+    into u v back = inl (grown .into b a back)
 
--- .. and so where the second does.
+-- .. and so where the second does, since the two may change places.
 pub second-adds : {a b : ℕ} (s r r′ : ℕ → ℕ) → Adds a b (Step r) (Step r′) → Adds a b (Mixed s r) (Mixed s r′)
 second-adds s r r′ grown =
     let turned = first-adds r r′ s grown in
     record {
-      out = λ u v e. tied-map (mixed-swap r s) u v (turned .out u v (mixed-swap s r′ u v e));
-      into = λ u v e. mixed-swap r′ s u v (turned .into u v (tied-map (mixed-swap s r) u v e));
+      out = λ u v e. tied-map (swap r s) u v (turned .out u v (swap s r′ u v e));
+      into = λ u v e. swap r′ s u v (turned .into u v (tied-map (swap s r) u v e));
     }
+  where
+    swap : (s r : ℕ → ℕ) (u v : ℕ) → Mixed s r u v → Mixed r s u v
+    swap s r u v (inl e) = inr e
+    swap s r u v (inr e) = inl e
 
 -- A subject group lies inside a role group.
 pub subject-role : (d : Book) {u v : ℕ} → Chain (SubjectBound d) u v → Chain (RoleBound d) u v
-subject-role d = chain-map (λ u v e. mixed-in (d .row SB) (d .row RB) u v (inl e))
+subject-role d = chain-map (λ u v e. inl e)
 
 module _ (d : Book) (sound : Sound d) where
   -- In a sound book role groups run both ways ..
   pub role-turns : Symmetric (RoleBound d)
-  role-turns u v e = go (mixed-out (d .row SB) (d .row RB) u v e)
-    where
-      go : SubjectBound d u v ⊎ Step (d .row RB) u v → RoleBound d v u
-      go (inl q) = mixed-in (d .row SB) (d .row RB) v u (inl (sound .bindings .sb .rule2 u v q))
-      go (inr q) = mixed-in (d .row SB) (d .row RB) v u (inr (sound .bindings .rb .rule2 u v q))
+  role-turns u v (inl e) = inl (sound .bindings .sb .rule2 u v e)
+  role-turns u v (inr e) = inr (sound .bindings .rb .rule2 u v e)
 
   -- .. tasks exclude each other both ways ..
   pub excluding-turns : Symmetric (Excluding d)

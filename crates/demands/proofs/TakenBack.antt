@@ -16,7 +16,7 @@ use Rattle.rules.proofs.ChangeLaws.{Held, a-task, a-junior, a-role}
 use Rattle.demands.proofs.RowChanges.{take-old}
 use Rattle.demands.proofs.Owners.{owned-map}
 use Rattle.demands.proofs.Conflicts.{Exact, Owning}
-use Rattle.demands.proofs.PlainKinds.{plain}
+use Rattle.demands.proofs.UnopposedKinds.{unopposed}
 
 -- A book d′ whose tables have no steps that d has not: its owners own no more, and no role reaches more.
 module _ (d d′ : Book) (fewer : (n u v : ℕ) → Step (d′ .row n) u v → Step (d .row n) u v) where
@@ -24,7 +24,9 @@ module _ (d d′ : Book) (fewer : (n u v : ℕ) → Step (d′ .row n) u v → S
   sound-less : d′ .head 3 ≡ 0 → Bindings (tasks d′) (d′ .row SME) (d′ .row DME) (d′ .row RB) (d′ .row SB)
       → Ranks (tasks d′) (roles d′) (subjects d′) (d .row juniors) (d .row tasksOf) (d .row rolesOf) (d′ .row active)
       → Orders (tasks d′) (roles d′) (subjects d′) (d′ .row SME) (d′ .row DME) (d′ .row RB) (d′ .row SB) (d′ .row orders) (d′ .cell)
-      → ((o : ℕ) → o < 64 → PairFree (Step (d′ .row SME)) (Owning d role o)) → ((o : ℕ) → o < 64 → PairFree (Step (d′ .row SME)) (Owning d (subject d) o)) → Sound d′
+      → ((o : ℕ) → o < 64 → PairFree (Step (d′ .row SME)) (Owning d role o))
+      → ((o : ℕ) → o < 64 → PairFree (Step (d′ .row SME)) (Owning d (subject d) o))
+      → Sound d′
   sound-less gap bindings ranks hands rule7 rule8 = record {
     gap = gap;
     bindings = bindings;
@@ -57,11 +59,11 @@ module _ (d : Book) (sound : Sound d) (a b c : ℕ) where
   pub take-exact : {n : ℕ} {x y : Needs} → Held n x y → Exact d (takeBack n) a b c
   unfolding change conflicts
   take-exact a-task =
-      plain d (takeBack tasksOf) a b c refl
+      unopposed d (takeBack tasksOf) a b c refl
       (sound-less d _ (taken tasksOf) (sound .gap) (sound .bindings) (sound .ranks) (sound .orders) (sound .rule7) (sound .rule8))
   take-exact a-junior =
-      plain d (takeBack juniors) a b c refl
+      unopposed d (takeBack juniors) a b c refl
       (sound-less d _ (taken juniors) (sound .gap) (sound .bindings) (sound .ranks) (sound .orders) (sound .rule7) (sound .rule8))
   take-exact a-role =
-      plain d (takeBack rolesOf) a b c refl
+      unopposed d (takeBack rolesOf) a b c refl
       (sound-less d _ (taken rolesOf) (sound .gap) (sound .bindings) (sound .ranks) (sound .orders) (sound .rule7) (sound .rule8))

@@ -3,15 +3,12 @@
 -- They speak of a lent slice of 4,676 words w, of the answer, the blind change and the audit as crate rules defines them.
 use mathlib.Core.Path.{_≡_}
 use mathlib.Core.Logic.{_↔_}
-use Prim.Native.Nat.{ℕ, _^_, _<_}
+use Prim.Native.Nat.{ℕ}
 use Rattle.rules.specs.Book.{bookWords, read, write}
 use Rattle.rules.specs.Requests.{Request}
 use Rattle.rules.specs.Numbers.{accepted, refusal, blind, answer, wordsAfter}
 use Rattle.rules.specs.Audit.{audited}
-
--- every word has 64 bits
-abbrev pub Fits : (ℕ → ℕ) → Type 0
-Fits w = (i : ℕ) → i < bookWords → w i < 2 ^ 64
+use Rattle.rules.specs.Meaning.{Fits}
 
 -- the audit answers 0
 abbrev pub Passes : (ℕ → ℕ) → Type 0

@@ -1,4 +1,3 @@
 pub mod Exits
 pub mod KindRanges
 pub mod OneOutcome
-pub mod TableLaws

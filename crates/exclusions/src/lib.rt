@@ -4,17 +4,32 @@ use owners::Owner;
 ghost use mathlib.Core.Path.{_≡_};
 ghost use mathlib.Core.List.{[], _∷_};
 ghost use Prim.Native.Nat.{_<_};
-ghost use lib.ListN.{length};
-ghost use Rattle.rules.specs.Book.{SME, DME};
-ghost use Rattle.rules.specs.Requests.{relate};
-ghost use Rattle.rules.specs.Numbers.{roleOwnsBoth, subjectOwnsBoth, conflicts, firstOf};
-ghost use Rattle.book.specs.Slice.{tables};
+ghost use Rattle.sets.specs.Mask.{bit};
+ghost use Rattle.rules.specs.Trade.{subjectGroup, roleGroup};
+ghost use Rattle.rules.specs.Numbers.{roleOwnsBoth, subjectOwnsBoth, smeConflicts, dmeConflicts, firstOf};
+ghost use Rattle.book.specs.Slice.{tables, Full};
 ghost use Rattle.answers.specs.Answers.{said};
+
+// 23: b lies in the subject group of a.
+fn in_subject_group(book: &[u64], a: u64, b: u64) -> bool
+    requires { ⌜ Full (now book) × (a < 64) × (b < 64) ⌝ }
+    ensures { λ t. ⌜ t ≡ bit (subjectGroup (tables (now (book .entry))) a) b ⌝ }
+{
+    sets::has(trade::subject_group(book, a), b)
+}
+
+// 24: b lies in the role group of a.
+fn in_role_group(book: &[u64], a: u64, b: u64) -> bool
+    requires { ⌜ Full (now book) × (a < 64) × (b < 64) ⌝ }
+    ensures { λ t. ⌜ t ≡ bit (roleGroup (tables (now (book .entry))) a) b ⌝ }
+{
+    sets::has(trade::role_group(book, a), b)
+}
 
 // 25 and 26: a role, then a subject, owns both tasks.
 fn owned_together(book: &[u64], a: u64, b: u64) -> Answer
-    requires { ⌜ (length (now book) ≡ 4676) × (a < 64) × (b < 64) ⌝ }
-    ensures { λ r. ⌜ said r ≡ firstOf (roleOwnsBoth ∷ subjectOwnsBoth ∷ []) (tables (now (book .entry))) a b 0 ⌝ }
+    requires { ⌜ Full (now book) × (a < 64) × (b < 64) ⌝ }
+    ensures { λ r. ⌜ said r ≡ firstOf (roleOwnsBoth ∷ subjectOwnsBoth ∷ []) (tables (now (book .entry))) a b ⌝ }
 {
     let role = owners::lowest_owner_of_both(book, Owner::Role, a, b);
     if role < 64 {
@@ -29,19 +44,19 @@ fn owned_together(book: &[u64], a: u64, b: u64) -> Answer
 
 // Kind 4: 20, 21, 23, 24, 25, 26.
 pub fn sme_conflict(book: &[u64], a: u64, b: u64) -> Answer
-    requires { ⌜ (length (now book) ≡ 4676) × (a < 64) × (b < 64) ⌝ }
-    ensures { λ r. ⌜ said r ≡ firstOf (conflicts (relate SME)) (tables (now (book .entry))) a b 0 ⌝ }
+    requires { ⌜ Full (now book) × (a < 64) × (b < 64) ⌝ }
+    ensures { λ r. ⌜ said r ≡ firstOf smeConflicts (tables (now (book .entry))) a b ⌝ }
 {
     if a == b {
         return Answer::SelfConstraint;
     }
-    if sets::has(book::row(book, book::DME, a), b) {
+    if book::is_in_row(book, book::DME, a, b) {
         return Answer::AlreadyDme;
     }
-    if sets::has(trade::subject_group(book, a), b) {
+    if in_subject_group(book, a, b) {
         return Answer::OneSubjectGroup;
     }
-    if sets::has(trade::role_group(book, a), b) {
+    if in_role_group(book, a, b) {
         return Answer::OneRoleGroup;
     }
     owned_together(book, a, b)
@@ -49,17 +64,17 @@ pub fn sme_conflict(book: &[u64], a: u64, b: u64) -> Answer
 
 // Kind 5: 20, 22, 23.
 pub fn dme_conflict(book: &[u64], a: u64, b: u64) -> Answer
-    requires { ⌜ (length (now book) ≡ 4676) × (a < 64) × (b < 64) ⌝ }
-    ensures { λ r. ⌜ said r ≡ firstOf (conflicts (relate DME)) (tables (now (book .entry))) a b 0 ⌝ }
+    requires { ⌜ Full (now book) × (a < 64) × (b < 64) ⌝ }
+    ensures { λ r. ⌜ said r ≡ firstOf dmeConflicts (tables (now (book .entry))) a b ⌝ }
 {
     if a == b {
         return Answer::SelfConstraint;
     }
-    if sets::has(book::row(book, book::SME, a), b) {
+    if book::is_in_row(book, book::SME, a, b) {
         return Answer::AlreadySme;
     }
-    if sets::has(trade::subject_group(book, a), b) {
-        return Answer::OneSubjectGroup;
+    if !in_subject_group(book, a, b) {
+        return Answer::Accepted;
     }
-    Answer::Accepted
+    Answer::OneSubjectGroup
 }

@@ -6,16 +6,15 @@ use search::Found;
 ghost use mathlib.Core.Path.{_≡_};
 ghost use mathlib.Core.List.{[], _∷_};
 ghost use Prim.Native.Nat.{_<_};
-ghost use lib.ListN.{length};
-ghost use Rattle.rules.specs.Book.{juniors, rolesOf};
-ghost use Rattle.rules.specs.Requests.{assign};
-ghost use Rattle.rules.specs.Numbers.{gained, taskAssignment, roleAssignment, conflicts, firstOf};
-ghost use Rattle.book.specs.Slice.{tables};
+ghost use Rattle.sets.specs.Mask.{bit};
+ghost use Rattle.rules.specs.Trade.{reach};
+ghost use Rattle.rules.specs.Numbers.{gained, taskAssignment, roleAssignment, juniorConflicts, roleConflicts, firstOf};
+ghost use Rattle.book.specs.Slice.{tables, Full};
 ghost use Rattle.answers.specs.Answers.{said};
 
 // What is gained: task a where a role gets a task, else all tasks owned by role a.
 fn gain_of(book: &[u64], table: u64, a: u64) -> u64
-    requires { ⌜ (length (now book) ≡ 4676) × (a < 64) ⌝ }
+    requires { ⌜ Full (now book) × (a < 64) ⌝ }
     ensures { λ r. ⌜ r ≡ gained (tables (now (book .entry))) table a ⌝ }
 {
     if table == book::TASKS_OF {
@@ -25,10 +24,18 @@ fn gain_of(book: &[u64], table: u64, a: u64) -> u64
     }
 }
 
+// 30: role a reaches role b.
+fn reaches(book: &[u64], a: u64, b: u64) -> bool
+    requires { ⌜ Full (now book) × (a < 64) × (b < 64) ⌝ }
+    ensures { λ t. ⌜ t ≡ bit (reach (tables (now (book .entry))) a) b ⌝ }
+{
+    sets::has(trade::reach(book, a), b)
+}
+
 // 32: among the subjects that own role b.
 fn subjects_conflict(book: &[u64], table: u64, a: u64, b: u64) -> Answer
-    requires { ⌜ (length (now book) ≡ 4676) × (a < 64) × (b < 64) ⌝ }
-    ensures { λ r. ⌜ said r ≡ firstOf (roleAssignment table ∷ []) (tables (now (book .entry))) a b 0 ⌝ }
+    requires { ⌜ Full (now book) × (a < 64) × (b < 64) ⌝ }
+    ensures { λ r. ⌜ said r ≡ firstOf (roleAssignment table ∷ []) (tables (now (book .entry))) a b ⌝ }
 {
     let found = owners::first_clash(book, Owner::Subject, b, gain_of(book, table, a));
     match found {
@@ -39,8 +46,8 @@ fn subjects_conflict(book: &[u64], table: u64, a: u64, b: u64) -> Answer
 
 // Kinds 8 and 9: 31 among b and its seniors, then 32.
 pub fn owners_conflict(book: &[u64], table: u64, a: u64, b: u64) -> Answer
-    requires { ⌜ (length (now book) ≡ 4676) × (a < 64) × (b < 64) ⌝ }
-    ensures { λ r. ⌜ said r ≡ firstOf (taskAssignment table ∷ roleAssignment table ∷ []) (tables (now (book .entry))) a b 0 ⌝ }
+    requires { ⌜ Full (now book) × (a < 64) × (b < 64) ⌝ }
+    ensures { λ r. ⌜ said r ≡ firstOf (taskAssignment table ∷ roleAssignment table ∷ []) (tables (now (book .entry))) a b ⌝ }
 {
     let found = owners::first_clash(book, Owner::Role, b, gain_of(book, table, a));
     match found {
@@ -51,13 +58,13 @@ pub fn owners_conflict(book: &[u64], table: u64, a: u64, b: u64) -> Answer
 
 // Kind 9: 29, 30, then 31 and 32.
 pub fn junior_conflict(book: &[u64], a: u64, b: u64) -> Answer
-    requires { ⌜ (length (now book) ≡ 4676) × (a < 64) × (b < 64) ⌝ }
-    ensures { λ r. ⌜ said r ≡ firstOf (conflicts (assign juniors)) (tables (now (book .entry))) a b 0 ⌝ }
+    requires { ⌜ Full (now book) × (a < 64) × (b < 64) ⌝ }
+    ensures { λ r. ⌜ said r ≡ firstOf juniorConflicts (tables (now (book .entry))) a b ⌝ }
 {
     if a == b {
         return Answer::SelfInheritance;
     }
-    if sets::has(trade::reach(book, a), b) {
+    if reaches(book, a, b) {
         return Answer::Cycle;
     }
     owners_conflict(book, book::JUNIORS, a, b)
@@ -65,8 +72,8 @@ pub fn junior_conflict(book: &[u64], a: u64, b: u64) -> Answer
 
 // Kind 10: 32 of subject b itself.
 pub fn own_conflict(book: &[u64], a: u64, b: u64) -> Answer
-    requires { ⌜ (length (now book) ≡ 4676) × (a < 64) × (b < 64) ⌝ }
-    ensures { λ r. ⌜ said r ≡ firstOf (conflicts (assign rolesOf)) (tables (now (book .entry))) a b 0 ⌝ }
+    requires { ⌜ Full (now book) × (a < 64) × (b < 64) ⌝ }
+    ensures { λ r. ⌜ said r ≡ firstOf roleConflicts (tables (now (book .entry))) a b ⌝ }
 {
     let owned = trade::owned_tasks(book, book::row(book, book::ROLES_OF, b));
     let y = owners::clash_of(book, owned, gain_of(book, book::ROLES_OF, a));

@@ -14,12 +14,13 @@ otherHand d p rivals hand v = not (bit rivals v && eqb hand (subjectIn (d .cell 
 
 -- the same S in two cells where v is in the subject group, the same E where it is in the role group
 abbrev pub alike : ℕ → ℕ → ℕ → ℕ → ℕ → Bool
-alike bySubject byRole v own other = implies (bit bySubject v) (eqb (subjectIn own) (subjectIn other)) && implies (bit byRole v) (eqb (roleIn own) (roleIn other))
+alike bySubject byRole v own other =
+    implies (bit bySubject v) (eqb (subjectIn own) (subjectIn other)) && implies (bit byRole v) (eqb (roleIn own) (roleIn other))
 
 abbrev pub sameHand : Book → ℕ → ℕ → ℕ → ℕ → ℕ → Bool
 sameHand d p bySubject byRole own v = alike bySubject byRole v own (d .cell p v)
 
--- rule 9, or rule 10 with the two groups of u, of u, order p and v
+-- rule 9, or rule 10 with the two groups of u, of order p, u and v
 abbrev pub handsKept : Book → Hands → ℕ → ℕ → ℕ → Bool
 handsKept d Apart = handsApart d
 handsKept d (Together bySubject byRole) = handsTogether d bySubject byRole

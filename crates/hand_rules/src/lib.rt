@@ -2,10 +2,9 @@
 // An order without u asks nothing, so none of its cells is read; u's groups are made once for all orders, by the caller.
 ghost use mathlib.Core.Path.{_≡_};
 ghost use Prim.Native.Nat.{_<_};
-ghost use lib.ListN.{length};
 ghost use Rattle.sets.specs.Search.{all};
-ghost use Rattle.rules.specs.Audit.{everyCell};
-ghost use Rattle.book.specs.Slice.{tables};
+ghost use Rattle.rules.specs.Audit.{inOrder, inOrders};
+ghost use Rattle.book.specs.Slice.{tables, Full};
 ghost use Rattle.hand_rules.specs.Hands.{alike, otherHand, sameHand, handsKept};
 
 // What is asked of the hands in u's cell and in those beside it: rule 9, or rule 10 with u's subject group and role group.
@@ -16,14 +15,14 @@ pub enum Hands {
 
 // Rule 9 beside u, whose S is `hand`: no rival has the same S above 0.
 fn is_alone(book: &[u64], order: u64, rivals: u64, hand: u64) -> bool
-    requires { ⌜ (length (now book) ≡ 4676) × (order < 64) ⌝ }
+    requires { ⌜ Full (now book) × (order < 64) ⌝ }
     ensures { λ r. ⌜ r ≡ all 64 (otherHand (tables (now (book .entry))) order rivals hand) ⌝ }
 {
     if hand == 0 {
         return true;
     }
     for v in 0..64 {
-        if sets::has(rivals, v) & (hand == book::cell(book, order, v) % 128) {
+        if sets::has(rivals, v) & (hand == book::subject_in(book::cell(book, order, v))) {
             return false;
         }
     }
@@ -35,13 +34,13 @@ fn is_alike(subjects: u64, roles: u64, v: u64, own: u64, other: u64) -> bool
     requires { ⌜ v < 64 ⌝ }
     ensures { λ r. ⌜ r ≡ alike subjects roles v own other ⌝ }
 {
-    (!sets::has(subjects, v) | (own % 128 == other % 128))
-        & (!sets::has(roles, v) | (own / 128 == other / 128))
+    (!sets::has(subjects, v) | (book::subject_in(own) == book::subject_in(other)))
+        & (!sets::has(roles, v) | (book::role_in(own) == book::role_in(other)))
 }
 
 // Rule 10 beside u, in whose cell `own` stands.
 fn is_together(book: &[u64], order: u64, subjects: u64, roles: u64, own: u64) -> bool
-    requires { ⌜ (length (now book) ≡ 4676) × (order < 64) ⌝ }
+    requires { ⌜ Full (now book) × (order < 64) ⌝ }
     ensures { λ r. ⌜ r ≡ all 64 (sameHand (tables (now (book .entry))) order subjects roles own) ⌝ }
 {
     for v in 0..64 {
@@ -54,8 +53,8 @@ fn is_together(book: &[u64], order: u64, subjects: u64, roles: u64, own: u64) ->
 
 // The rule in one order; rivals and groups are cut to the order's tasks.
 fn is_kept_in(book: &[u64], hands: Hands, u: u64, order: u64) -> bool
-    requires { ⌜ (length (now book) ≡ 4676) × (u < 64) × (order < 64) ⌝ }
-    ensures { λ r. ⌜ r ≡ all 64 (handsKept (tables (now (book .entry))) hands u order) ⌝ }
+    requires { ⌜ Full (now book) × (u < 64) × (order < 64) ⌝ }
+    ensures { λ r. ⌜ r ≡ inOrder (handsKept (tables (now (book .entry))) hands) (tables (now (book .entry))) u order ⌝ }
 {
     let tasks = book::row(book, book::ORDERS, order);
     if !sets::has(tasks, u) {
@@ -67,7 +66,7 @@ fn is_kept_in(book: &[u64], hands: Hands, u: u64, order: u64) -> bool
             book,
             order,
             tasks & trade::mixed_row(book, book::SME, book::DME, u),
-            own % 128,
+            book::subject_in(own),
         ),
         Hands::Together(subjects, roles) => {
             is_together(book, order, tasks & subjects, tasks & roles, own)
@@ -77,8 +76,8 @@ fn is_kept_in(book: &[u64], hands: Hands, u: u64, order: u64) -> bool
 
 // The rule in every order.
 pub fn is_kept(book: &[u64], hands: Hands, u: u64) -> bool
-    requires { ⌜ (length (now book) ≡ 4676) × (u < 64) ⌝ }
-    ensures { λ r. ⌜ r ≡ everyCell (handsKept (tables (now (book .entry))) hands u) ⌝ }
+    requires { ⌜ Full (now book) × (u < 64) ⌝ }
+    ensures { λ r. ⌜ r ≡ inOrders (handsKept (tables (now (book .entry))) hands) (tables (now (book .entry))) u ⌝ }
 {
     for order in 0..64 {
         if !is_kept_in(book, hands, u, order) {

@@ -17,19 +17,19 @@ only-both false q x = refl
 
 module _ (d : Book) (b c tasks t held : ℕ) where
   -- The code's one test, of what it read, is that of both conditions.
-  module _ {member : Bool} {v : ℕ} (isMember : member ≡ bit tasks t) (its : v ≡ d .cell b t) where
-    tested : (s : Bool) → (member && eqb (subjectIn v) (c + 1)) ≡ s → only (bit tasks t) (heldRow d b c t) ≡ only s (2 ^ t)
+  module _ {member : Bool} {hand : ℕ} (isMember : member ≡ bit tasks t) (its : hand ≡ subjectIn (d .cell b t)) where
+    tested : (s : Bool) → (member && eqb hand (c + 1)) ≡ s → only (bit tasks t) (heldRow d b c t) ≡ only s (2 ^ t)
     tested s e =
         only-both (bit tasks t) (eqb (subjectIn (d .cell b t)) (suc c)) (2 ^ t)
-        ∙ ap (λ (k : Bool). only k (2 ^ t)) (sym (λ i. isMember i && eqb (subjectIn (its i)) (add-one c i)) ∙ e)
+        ∙ ap (λ (k : Bool). only k (2 ^ t)) (sym (λ i. isMember i && eqb (its i) (add-one c i)) ∙ e)
 
     -- Where it holds, the task joins ..
-    pub held-yes : (member && eqb (subjectIn v) (c + 1)) ≡ true → with held t ≡ heldNext d b c tasks t held
+    pub held-yes : (member && eqb hand (c + 1)) ≡ true → with held t ≡ heldNext d b c tasks t held
     unfolding with
     held-yes e = ap (bitOr held) (sym (tested true e))
 
     -- .. and where it fails, nothing does.
-    pub held-no : (member && eqb (subjectIn v) (c + 1)) ≡ false → held ≡ heldNext d b c tasks t held
+    pub held-no : (member && eqb hand (c + 1)) ≡ false → held ≡ heldNext d b c tasks t held
     held-no e = sym (ap (bitOr held) (tested false e) ∙ or-zero-r held)
 
   -- What is held below t + 1, from what is held below t.

@@ -1,16 +1,15 @@
 // What an allocation asks of an order and a subject: the two hands of a task, what the subject holds, and whether it owns its active role now.
-// Whoever calls these has seen that the slice has 4,676 words and that the numbers are below 64.
+// Whoever calls these has seen that the slice is full and that the numbers are below 64.
 ghost use mathlib.Core.Path.{_≡_};
 ghost use Prim.Native.Nat.{_<_};
-ghost use lib.ListN.{length};
 ghost use Rattle.rules.specs.Requests.{roleHand, subjectHand};
 ghost use Rattle.rules.specs.Numbers.{activeOwned, heldBy};
-ghost use Rattle.book.specs.Slice.{tables};
+ghost use Rattle.book.specs.Slice.{tables, Full};
 ghost use Rattle.hands.specs.Held.{heldNext};
 
 // The tasks of the order in the role group of a task.
 pub fn role_hand(book: &[u64], task: u64, order: u64) -> u64
-    requires { ⌜ (length (now book) ≡ 4676) × (task < 64) × (order < 64) ⌝ }
+    requires { ⌜ Full (now book) × (task < 64) × (order < 64) ⌝ }
     ensures { λ v. ⌜ v ≡ roleHand (tables (now (book .entry))) task order ⌝ }
 {
     trade::role_group(book, task) & book::row(book, book::ORDERS, order)
@@ -18,7 +17,7 @@ pub fn role_hand(book: &[u64], task: u64, order: u64) -> u64
 
 // The tasks of the order in the subject group of a task.
 pub fn subject_hand(book: &[u64], task: u64, order: u64) -> u64
-    requires { ⌜ (length (now book) ≡ 4676) × (task < 64) × (order < 64) ⌝ }
+    requires { ⌜ Full (now book) × (task < 64) × (order < 64) ⌝ }
     ensures { λ v. ⌜ v ≡ subjectHand (tables (now (book .entry))) task order ⌝ }
 {
     trade::subject_group(book, task) & book::row(book, book::ORDERS, order)
@@ -26,10 +25,10 @@ pub fn subject_hand(book: &[u64], task: u64, order: u64) -> u64
 
 // The set `held` with task t, where t is one of the tasks and its cell has the subject.
 fn with_held(book: &[u64], order: u64, subject: u64, tasks: u64, t: u64, held: u64) -> u64
-    requires { ⌜ (length (now book) ≡ 4676) × (order < 64) × (subject < 64) × (t < 64) ⌝ }
+    requires { ⌜ Full (now book) × (order < 64) × (subject < 64) × (t < 64) ⌝ }
     ensures { λ v. ⌜ v ≡ heldNext (tables (now (book .entry))) order subject tasks t held ⌝ }
 {
-    if sets::has(tasks, t) & (book::cell(book, order, t) % 128 == subject + 1) {
+    if sets::has(tasks, t) & (book::subject_in(book::cell(book, order, t)) == subject + 1) {
         sets::add(held, t)
     } else {
         held
@@ -38,7 +37,7 @@ fn with_held(book: &[u64], order: u64, subject: u64, tasks: u64, t: u64, held: u
 
 // The tasks of the order that the subject holds.
 pub fn held_by(book: &[u64], order: u64, subject: u64) -> u64
-    requires { ⌜ (length (now book) ≡ 4676) × (order < 64) × (subject < 64) ⌝ }
+    requires { ⌜ Full (now book) × (order < 64) × (subject < 64) ⌝ }
     ensures { λ v. ⌜ v ≡ heldBy (tables (now (book .entry))) order subject ⌝ }
 {
     let tasks = book::row(book, book::ORDERS, order);
@@ -51,16 +50,15 @@ pub fn held_by(book: &[u64], order: u64, subject: u64) -> u64
 
 // Whether the subject's active word names a role that it owns now. No role is numbered above 63.
 pub fn active_owned(book: &[u64], subject: u64) -> bool
-    requires { ⌜ (length (now book) ≡ 4676) × (subject < 64) ⌝ }
+    requires { ⌜ Full (now book) × (subject < 64) ⌝ }
     ensures { λ v. ⌜ v ≡ activeOwned (tables (now (book .entry))) subject ⌝ }
 {
     let e = book::row(book, book::ACTIVE, subject);
-    let owned = trade::below(book, book::row(book, book::ROLES_OF, subject));
     if e == 0 {
         return false;
     }
     if e > 64 {
         return false;
     }
-    sets::has(owned, e - 1)
+    trade::owns_role(book, subject, e - 1)
 }

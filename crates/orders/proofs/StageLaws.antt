@@ -1,6 +1,6 @@
 -- Kind 13's refusals, each from what the code has read when it answers; and what an accepted allocation knows and does.
 use mathlib.Core.Path.{_≡_, refl, sym, ap, _∙_}
-use mathlib.Core.Bool.{Bool, true, false, not, true≢false}
+use mathlib.Core.Bool.{Bool, true, false, _&&_, not}
 use Prim.Native.Nat.{ℕ, _-_, _≤_, _<_}
 use native.Mathlib.Omega.{arith}
 use lib.Dec.{eqb}
@@ -11,40 +11,47 @@ use Rattle.sets.proofs.Logic.{and-out}
 use Rattle.rules.specs.Book.{Book, active, orders, roleIn, subjectIn}
 use Rattle.rules.specs.Trade.{role, ownedTasks}
 use Rattle.rules.specs.Requests.{allocate, roleHand, subjectHand, stamped, change}
-use Rattle.rules.specs.Numbers.{Said, accepted, say, outside, activeOwned, allocateRefusal, stateRefusal}
+use Rattle.rules.specs.Numbers.{Said, accepted, say, sayX, outside, activeOwned, stateRefusal, isAccepted}
+use Rattle.rules.specs.Numbers.{taskRefusal, otherRole, roleRefusal, cellRefusal, allocateRefusal}
 use Rattle.rules.proofs.NumberLaws.{given-out, orElse-out}
-use Rattle.answers.specs.Answers.{isAccepted}
+use Rattle.rules.proofs.SaidLaws.{accepted-out}
 use Rattle.deeds.specs.Outcome.{decide}
 use Rattle.deeds.proofs.CascadeLaws.{given-yes, given-no, lowest-yes, lowest-no}
-use Rattle.orders.specs.Stages.{otherRole, taskRefusal, roleRefusal, cellRefusal}
 
--- A cell with another role has a role.
-pub some-role : (v e : ℕ) → otherRole v e ≡ true → 0 < roleIn v
-some-role v e h = let n = eqb-false (roleIn v) 0 (not-true (eqb (roleIn v) 0) (and-out _ _ h .0)) in omega arith
+-- A role other than e's is some role.
+pub some-role : (had e : ℕ) → (not (eqb had 0) && not (eqb had e)) ≡ true → 0 < had
+some-role had e h = let n = eqb-false had 0 (not-true (eqb had 0) (and-out _ _ h .0)) in omega arith
 
--- 9 to 11, with v read from the cell.
-module _ (d : Book) (a b e : ℕ) {v : ℕ} (cell : v ≡ d .cell b a) where
+-- 9 to 11, with the hand and the role that were read from the cell; e is the executing role, plus 1.
+module _ (d : Book) (a b e : ℕ) {hand : ℕ} (isHand : hand ≡ subjectIn (d .cell b a)) where
   -- 9: the cell has a subject.
-  pub has-subject : (subjectIn v ≡ 0 → ⊥) → say 9 (subjectIn v - 1) 0 ≡ cellRefusal d a b e
+  pub has-subject : (hand ≡ 0 → ⊥) → sayX 9 (hand - 1) ≡ cellRefusal d a b e
   has-subject n =
-      ap (λ (x : ℕ). say 9 (subjectIn x - 1) 0) cell ∙ given-yes _ _ _ (ap not (ne-eqb (subjectIn (d .cell b a)) 0 (λ z. n (ap subjectIn cell ∙ z))))
+      ap (λ (x : ℕ). sayX 9 (x - 1)) isHand ∙ given-yes _ _ _ (ap not (ne-eqb (subjectIn (d .cell b a)) 0 (λ z. n (isHand ∙ z))))
 
-  module _ (none : subjectIn v ≡ 0) where
+  module _ (free : hand ≡ 0) {had : ℕ} (isRole : had ≡ roleIn (d .cell b a)) where
     -- the cell has no subject: on with 10
     role-asked : {out : Said} → out ≡ roleRefusal d a b e → out ≡ cellRefusal d a b e
-    role-asked p = given-no _ _ _ (ap not (eq-eqb (subjectIn (d .cell b a)) 0 (ap subjectIn (sym cell) ∙ none))) p
+    role-asked p = given-no _ _ _ (ap not (eq-eqb (subjectIn (d .cell b a)) 0 (sym isHand ∙ free))) p
+
+    -- whether the role that was read is another one
+    abbrev pub Other : Bool
+    Other = not (eqb had 0) && not (eqb had e)
+
+    other : {t : Bool} → Other ≡ t → otherRole (d .cell b a) e ≡ t
+    other p = sym (ap (λ (x : ℕ). not (eqb x 0) && not (eqb x e)) isRole) ∙ p
 
     -- 10: the cell has another role.
-    pub has-role : otherRole v e ≡ true → say 10 (roleIn v - 1) 0 ≡ cellRefusal d a b e
-    has-role h = role-asked (ap (λ (x : ℕ). say 10 (roleIn x - 1) 0) cell ∙ given-yes _ _ _ (ap (λ (x : ℕ). otherRole x e) (sym cell) ∙ h))
+    pub has-role : Other ≡ true → sayX 10 (had - 1) ≡ cellRefusal d a b e
+    has-role h = role-asked (ap (λ (x : ℕ). sayX 10 (x - 1)) isRole ∙ given-yes _ _ _ (other h))
 
-    module _ (same : otherRole v e ≡ false) {t : ℕ} (found : t ≡ lowest (outside (roleHand d a b) (ownedTasks d (role (e - 1))))) where
+    module _ (same : Other ≡ false) {t : ℕ} (found : t ≡ lowest (outside (roleHand d a b) (ownedTasks d (role (e - 1))))) where
       -- the cell has no other role: on with 11
       tasks-asked : {out : Said} → out ≡ taskRefusal d a b e → out ≡ cellRefusal d a b e
-      tasks-asked p = role-asked (given-no _ _ _ (ap (λ (x : ℕ). otherRole x e) (sym cell) ∙ same) p)
+      tasks-asked p = role-asked (given-no _ _ _ (other same) p)
 
       -- 11: the role doesn't own task t.
-      pub task-unowned : t < 64 → say 11 t 0 ≡ cellRefusal d a b e
+      pub task-unowned : t < 64 → sayX 11 t ≡ cellRefusal d a b e
       task-unowned h = tasks-asked (lowest-yes 11 _ accepted found h)
 
       -- It owns them all.
@@ -54,13 +61,13 @@ module _ (d : Book) (a b e : ℕ) {v : ℕ} (cell : v ≡ d .cell b a) where
 -- 4 and 8, with what was read of the order and the subject.
 module _ (d : Book) (a b c : ℕ) {member : Bool} (isMember : member ≡ bit (d .row orders b) a) where
   -- 4: a is not in the order.
-  pub not-in-order : not member ≡ true → say 4 1 0 ≡ allocateRefusal d a b c
+  pub not-in-order : not member ≡ true → sayX 4 1 ≡ allocateRefusal d a b c
   unfolding allocateRefusal
   not-in-order h = given-yes _ _ _ (ap not (sym isMember) ∙ h)
 
   module _ (in-order : not member ≡ false) {own : Bool} (isOwn : own ≡ activeOwned d c) where
     -- 8: c has no active role or doesn't own it now.
-    pub not-owned : not own ≡ true → say 8 0 0 ≡ allocateRefusal d a b c
+    pub not-owned : not own ≡ true → say 8 ≡ allocateRefusal d a b c
     unfolding allocateRefusal
     not-owned h = given-no _ _ _ (ap not (sym isMember) ∙ in-order) (given-yes _ _ _ (ap not (sym isOwn) ∙ h))
 
@@ -70,17 +77,13 @@ module _ (d : Book) (a b c : ℕ) {member : Bool} (isMember : member ≡ bit (d 
     cell-asked h word p =
         given-no _ _ _ (ap not (sym isMember) ∙ in-order) (given-no _ _ _ (ap not (sym isOwn) ∙ h) (p ∙ ap (cellRefusal d a b) word))
 
-accepted-is : (s : Said) → isAccepted s ≡ true → s ≡ accepted
-accepted-is accepted e = refl
-accepted-is (say n x y) e = absurd (true≢false (sym e))
-
 -- Where an allocation is accepted, the subject owns its active role ..
 pub allocated-owned : (d : Book) (a b c : ℕ) {s : Said} → s ≡ decide d allocate a b c → isAccepted s ≡ true → activeOwned d c ≡ true
 unfolding decide stateRefusal allocateRefusal
 allocated-owned d a b c {s} told e =
-    let refusal = orElse-out (allocateRefusal d a b c) _ (sym told ∙ accepted-is s e) .0 in
-    let order = given-out _ 4 1 0 _ refusal in
-    not-false (activeOwned d c) (given-out _ 8 0 0 _ (order .1) .0)
+    let refusal = orElse-out (allocateRefusal d a b c) _ (sym told ∙ accepted-out s e) .0 in
+    let order = given-out _ 4 _ _ refusal in
+    not-false (activeOwned d c) (given-out _ 8 _ _ (order .1) .0)
 
 -- .. and the cells are stamped by the two hands with that role.
 pub allocated-stamped : (d : Book) (a b c : ℕ) {after : Book} {wide narrow e : ℕ} → after ≡ stamped d b wide narrow e c

@@ -4,19 +4,17 @@ use answers::Answer;
 use search::Found;
 ghost use mathlib.Core.Path.{_≡_};
 ghost use Prim.Native.Nat.{_-_, _≤_, _<_};
-ghost use lib.ListN.{length};
 ghost use Rattle.sets.specs.Search.{lowest};
 ghost use Rattle.rules.specs.Trade.{role, ownedTasks};
 ghost use Rattle.rules.specs.Requests.{openOrder, allocate, closeOrder, roleHand};
-ghost use Rattle.rules.specs.Numbers.{outside, allocateRefusal, conflicts, firstOf};
-ghost use Rattle.book.specs.Slice.{tables};
+ghost use Rattle.rules.specs.Numbers.{outside, cellRefusal, allocateRefusal, heldConflicts, firstOf};
+ghost use Rattle.book.specs.Slice.{tables, Full};
 ghost use Rattle.answers.specs.Answers.{said};
 ghost use Rattle.deeds.specs.Outcome.{decide, Settled};
-ghost use Rattle.orders.specs.Stages.{cellRefusal};
 
 // Kind 12: open order a with the task mask c. 5 where it is open already.
 pub fn open_order(book: &mut [u64], a: u64, c: u64) -> Answer
-    requires { ⌜ (length (now book) ≡ 4676) × (a < 64) ⌝ }
+    requires { ⌜ Full (now book) × (a < 64) ⌝ }
     ensures { λ r. ⌜ Settled (now (book .entry)) (now (book .exit)) openOrder a 0 c r ⌝ }
 {
     if book::row(book, book::ORDERS, a) != 0 {
@@ -28,7 +26,7 @@ pub fn open_order(book: &mut [u64], a: u64, c: u64) -> Answer
 
 // Kind 14: close order a. Its mask and its 64 cells become 0.
 pub fn close_order(book: &mut [u64], a: u64) -> Answer
-    requires { ⌜ (length (now book) ≡ 4676) × (a < 64) ⌝ }
+    requires { ⌜ Full (now book) × (a < 64) ⌝ }
     ensures { λ r. ⌜ Settled (now (book .entry)) (now (book .exit)) closeOrder a 0 0 r ⌝ }
 {
     cells::set_order(book, a, 0);
@@ -37,7 +35,7 @@ pub fn close_order(book: &mut [u64], a: u64) -> Answer
 
 // The lowest task of a's role group in order b that the role e - 1 doesn't own; 64 where it owns all.
 fn lowest_unowned(book: &[u64], a: u64, b: u64, e: u64) -> u64
-    requires { ⌜ (length (now book) ≡ 4676) × (a < 64) × (b < 64) × (0 < e) × (e ≤ 64) ⌝ }
+    requires { ⌜ Full (now book) × (a < 64) × (b < 64) × (0 < e) × (e ≤ 64) ⌝ }
     ensures { λ t. ⌜ t ≡ lowest (outside (roleHand (tables (now (book .entry))) a b) (ownedTasks (tables (now (book .entry))) (role (e - 1)))) ⌝ }
 {
     let hand = hands::role_hand(book, a, b);
@@ -47,15 +45,17 @@ fn lowest_unowned(book: &[u64], a: u64, b: u64, e: u64) -> u64
 
 // Kind 13: 9 and 10 by the cell of task a in order b, then 11, where e is the executing role plus 1.
 fn cell_refusal(book: &[u64], a: u64, b: u64, e: u64) -> Answer
-    requires { ⌜ (length (now book) ≡ 4676) × (a < 64) × (b < 64) × (0 < e) × (e ≤ 64) ⌝ }
+    requires { ⌜ Full (now book) × (a < 64) × (b < 64) × (0 < e) × (e ≤ 64) ⌝ }
     ensures { λ r. ⌜ said r ≡ cellRefusal (tables (now (book .entry))) a b e ⌝ }
 {
     let v = book::cell(book, b, a);
-    if v % 128 != 0 {
-        return Answer::HasSubject(v % 128 - 1);
+    let subject = book::subject_in(v);
+    if subject != 0 {
+        return Answer::HasSubject(subject - 1);
     }
-    if (v / 128 != 0) & (v / 128 != e) {
-        return Answer::HasRole(v / 128 - 1);
+    let role = book::role_in(v);
+    if (role != 0) & (role != e) {
+        return Answer::HasRole(role - 1);
     }
     let task = lowest_unowned(book, a, b, e);
     if task < 64 {
@@ -66,10 +66,10 @@ fn cell_refusal(book: &[u64], a: u64, b: u64, e: u64) -> Answer
 
 // Kind 13: 4 where a is not in order b, then 8 to 11.
 fn allocate_refusal(book: &[u64], a: u64, b: u64, c: u64) -> Answer
-    requires { ⌜ (length (now book) ≡ 4676) × (a < 64) × (b < 64) × (c < 64) ⌝ }
+    requires { ⌜ Full (now book) × (a < 64) × (b < 64) × (c < 64) ⌝ }
     ensures { λ r. ⌜ said r ≡ allocateRefusal (tables (now (book .entry))) a b c ⌝ }
 {
-    if !sets::has(book::row(book, book::ORDERS, b), a) {
+    if !book::is_in_row(book, book::ORDERS, b, a) {
         return Answer::BadArgument(1);
     }
     if !hands::active_owned(book, c) {
@@ -80,8 +80,8 @@ fn allocate_refusal(book: &[u64], a: u64, b: u64, c: u64) -> Answer
 
 // Kind 13: 33 and 34, between what c holds in order b and a's subject group there.
 fn allocate_conflict(book: &[u64], a: u64, b: u64, c: u64) -> Answer
-    requires { ⌜ (length (now book) ≡ 4676) × (a < 64) × (b < 64) × (c < 64) ⌝ }
-    ensures { λ r. ⌜ said r ≡ firstOf (conflicts allocate) (tables (now (book .entry))) a b c ⌝ }
+    requires { ⌜ Full (now book) × (a < 64) × (b < 64) × (c < 64) ⌝ }
+    ensures { λ r. ⌜ said r ≡ firstOf (heldConflicts c) (tables (now (book .entry))) a b ⌝ }
 {
     let held = hands::held_by(book, b, c);
     let hand = hands::subject_hand(book, a, b);
@@ -96,7 +96,7 @@ fn allocate_conflict(book: &[u64], a: u64, b: u64, c: u64) -> Answer
 
 // Kind 13: the answer, on the book as it stands.
 fn judge_allocation(book: &[u64], a: u64, b: u64, c: u64) -> Answer
-    requires { ⌜ (length (now book) ≡ 4676) × (a < 64) × (b < 64) × (c < 64) ⌝ }
+    requires { ⌜ Full (now book) × (a < 64) × (b < 64) × (c < 64) ⌝ }
     ensures { λ r. ⌜ said r ≡ decide (tables (now (book .entry))) allocate a b c ⌝ }
 {
     let refusal = allocate_refusal(book, a, b, c);
@@ -108,7 +108,7 @@ fn judge_allocation(book: &[u64], a: u64, b: u64, c: u64) -> Answer
 
 // Kind 13: allocate task a in order b to subject c.
 pub fn allocate(book: &mut [u64], a: u64, b: u64, c: u64) -> Answer
-    requires { ⌜ (length (now book) ≡ 4676) × (a < 64) × (b < 64) × (c < 64) ⌝ }
+    requires { ⌜ Full (now book) × (a < 64) × (b < 64) × (c < 64) ⌝ }
     ensures { λ r. ⌜ Settled (now (book .entry)) (now (book .exit)) allocate a b c r ⌝ }
 {
     let answer = judge_allocation(book, a, b, c);

@@ -1,1 +1,2 @@
 pub mod PairAdded
+pub mod PairAnswers

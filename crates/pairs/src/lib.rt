@@ -2,19 +2,19 @@
 use answers::Answer;
 ghost use mathlib.Core.Path.{_≡_};
 ghost use Prim.Native.Nat.{_<_};
-ghost use lib.ListN.{length};
+ghost use Rattle.rules.specs.Book.{tableCount};
 ghost use Rattle.rules.specs.Requests.{relate};
-ghost use Rattle.rules.specs.Numbers.{stateRefusal, conflicts, firstOf};
-ghost use Rattle.book.specs.Slice.{tables};
+ghost use Rattle.rules.specs.Numbers.{stateRefusal, pairConflicts, firstOf};
+ghost use Rattle.book.specs.Slice.{tables, Full};
 ghost use Rattle.answers.specs.Answers.{said};
 ghost use Rattle.deeds.specs.Outcome.{decide, Settled};
 
 // 5 where the pair is set already, 7 while an order is open.
 fn pair_refusal(book: &[u64], table: u64, a: u64, b: u64) -> Answer
-    requires { ⌜ (length (now book) ≡ 4676) × (table < 9) × (a < 64) × (b < 64) ⌝ }
+    requires { ⌜ Full (now book) × (table < tableCount) × (a < 64) × (b < 64) ⌝ }
     ensures { λ r. ⌜ said r ≡ stateRefusal (tables (now (book .entry))) (relate table) a b 0 ⌝ }
 {
-    if sets::has(book::row(book, table, a), b) {
+    if book::is_in_row(book, table, a, b) {
         return Answer::AlreadySet;
     }
     let order = search::lowest_open(book);
@@ -24,22 +24,23 @@ fn pair_refusal(book: &[u64], table: u64, a: u64, b: u64) -> Answer
     Answer::Accepted
 }
 
-// What conflicts with the new pair, by the table.
+// What conflicts with the new pair, by the table. A table that has no pairs is refused.
 fn pair_conflict(book: &[u64], table: u64, a: u64, b: u64) -> Answer
-    requires { ⌜ (length (now book) ≡ 4676) × (table < 4) × (a < 64) × (b < 64) ⌝ }
-    ensures { λ r. ⌜ said r ≡ firstOf (conflicts (relate table)) (tables (now (book .entry))) a b 0 ⌝ }
+    requires { ⌜ Full (now book) × (a < 64) × (b < 64) ⌝ }
+    ensures { λ r. ⌜ said r ≡ firstOf (pairConflicts table) (tables (now (book .entry))) a b ⌝ }
 {
     match table {
-        0 => exclusions::sme_conflict(book, a, b),
-        1 => exclusions::dme_conflict(book, a, b),
-        2 => bindings::rb_conflict(book, a, b),
-        _ => bindings::sb_conflict(book, a, b),
+        book::SME => exclusions::sme_conflict(book, a, b),
+        book::DME => exclusions::dme_conflict(book, a, b),
+        book::RB => bindings::rb_conflict(book, a, b),
+        book::SB => bindings::sb_conflict(book, a, b),
+        _ => Answer::UnknownKind,
     }
 }
 
 // The answer, on the book as it stands.
 fn judge_pair(book: &[u64], table: u64, a: u64, b: u64) -> Answer
-    requires { ⌜ (length (now book) ≡ 4676) × (table < 4) × (a < 64) × (b < 64) ⌝ }
+    requires { ⌜ Full (now book) × (table < tableCount) × (a < 64) × (b < 64) ⌝ }
     ensures { λ r. ⌜ said r ≡ decide (tables (now (book .entry))) (relate table) a b 0 ⌝ }
 {
     let refusal = pair_refusal(book, table, a, b);
@@ -51,7 +52,7 @@ fn judge_pair(book: &[u64], table: u64, a: u64, b: u64) -> Answer
 
 // Kinds 4 to 7: both bits of the pair, where nothing stands in the way.
 pub fn relate(book: &mut [u64], table: u64, a: u64, b: u64) -> Answer
-    requires { ⌜ (length (now book) ≡ 4676) × (table < 4) × (a < 64) × (b < 64) ⌝ }
+    requires { ⌜ Full (now book) × (table < tableCount) × (a < 64) × (b < 64) ⌝ }
     ensures { λ r. ⌜ Settled (now (book .entry)) (now (book .exit)) (relate table) a b 0 r ⌝ }
 {
     let answer = judge_pair(book, table, a, b);

@@ -1,27 +1,31 @@
 -- What the table of seventeen rows asks for, and that every change keeps the book in its place:
 -- 64 rows of 64-bit words in each table, nothing outside, so that the changed book is what its words say.
 -- The table is gone through once, in `known-row`; after that a law goes by what a kind does, with the table as a number.
-use mathlib.Core.Path.{_≡_, refl, sym, ap, _∙_, subst}
+use mathlib.Core.Path.{_≡_, refl, sym, _∙_, subst}
 use mathlib.Core.Logic.{_⊎_, inl, inr}
 use mathlib.Core.Bool.{Bool, true, false, _&&_, not, true≢false}
 use Prim.Native.Nat.{ℕ, zero, suc, _^_, _≤_, _<_}
 use native.Mathlib.Omega.{arith}
 use native.Mathlib.Decide.{decLt}
 use lib.Dec.{ltb, eqb}
-use lib.ListN.{List·getD-eq-default}
+use lib.ListN.{length}
 use lib.Pow.{pow-pos}
 use borrow.Author.Tests.{eqb-true, eqb-false, ltb-true}
 use Rattle.sets.specs.Mask.{bit, with, without, within}
 use Rattle.sets.proofs.Logic.{and-out, refute}
 use Rattle.sets.proofs.MaskLaws.{with-lt, without-lt, within-lt, bit-lt, both-out}
-use Rattle.rules.specs.Book.{Book, tasks, SME, DME, RB, SB, juniors, tasksOf, rolesOf, active, orders, read, write}
+use Rattle.rules.specs.Book.{Book, headWords, tableCount, tasks, SME, DME, RB, SB, juniors, tasksOf, rolesOf, active, orders, read, write}
 use Rattle.rules.specs.Trade.{roleGroup}
-use Rattle.rules.specs.Requests.{Request, define, relate, assign, activate, openOrder, allocate, closeOrder, takeBack, Needs, unused, inRange, aTask, aRole, aSubject, anOpenOrder, aTaskMask, Row, asks, noRow, table, rowOf, isOpen, fits, setRow, addTo, takeFrom, setHead, setTable, setOrder, setActive, firstActive, assigned, roleHand, subjectHand, written, allocated, change}
-use Rattle.rules.specs.Numbers.{accepted, isNothing, refusal, blind}
+use Rattle.rules.specs.Requests.{Request, define, relate, assign, activate, openOrder, allocate, closeOrder, takeBack, Needs, unused, inRange}
+use Rattle.rules.specs.Requests.{aTask, aRole, aSubject, anOpenOrder, aTaskMask, Row, asks, noRow, table, rowOf, isOpen, fits, setRow, addTo}
+use Rattle.rules.specs.Requests.{takeFrom, setHead, setTable, setOrder, setActive, firstActive, assigned, roleHand, subjectHand, stampedCell}
+use Rattle.rules.specs.Requests.{allocated, change}
+use Rattle.rules.specs.Numbers.{accepted, refusal, blind}
 use Rattle.rules.specs.Meaning.{Tall, Sized}
 use Rattle.rules.proofs.Upto.{Upto, start, _next_, upto-at}
+use Rattle.rules.proofs.TableLaws.{no-kind-past}
 use Rattle.rules.proofs.NumberLaws.{Fitting, refusal-out}
-use Rattle.rules.proofs.BookLaws.{unchosen, Placed, read-sized, read-placed, read-write}
+use Rattle.rules.proofs.BookLaws.{unchosen, Placed, read-placed, read-write}
 
 -- What kinds 8, 9, 10 assign and 15, 16, 17 take back: the table, what is held, and who holds it.
 pub data Held : ℕ → Needs → Needs → Type 0 where
@@ -31,6 +35,7 @@ pub data Held : ℕ → Needs → Needs → Type 0 where
 
 -- A row of the table, by what its kind does.
 pub data Known : Row → Type 0 where
+  no-kind : Known noRow
   defines : (n : ℕ) → n < 3 → Known (asks (define n) inRange unused unused)
   relates : (n : ℕ) → n < 4 → Known (asks (relate n) aTask aTask unused)
   assigns : {n : ℕ} {x y : Needs} → Held n x y → Known (asks (assign n) x y unused)
@@ -40,25 +45,23 @@ pub data Known : Row → Type 0 where
   closes : Known (asks closeOrder anOpenOrder unused unused)
   takes-back : {n : ℕ} {x y : Needs} → Held n x y → Known (asks (takeBack n) x y unused)
 
--- A kind whose deed is not nothing is one of the seventeen.
-pub known-row : (k : ℕ) → isNothing (rowOf k .deed) ≡ false → Known (rowOf k)
+-- Every kind has such a row; outside 1..17 it is that of no kind.
+pub known-row : (k : ℕ) → Known (rowOf k)
 unfolding rowOf table
-known-row k e = go (decLt k 18)
+known-row k = go (decLt k (length table))
   where
-    seventeen : Upto (λ k. isNothing (rowOf k .deed) ≡ false → Known (rowOf k)) 18
-    seventeen =
-        start next (λ e. absurd (true≢false e))
-        next (λ e. defines 0 (omega arith)) next (λ e. defines 1 (omega arith)) next (λ e. defines 2 (omega arith))
-        next (λ e. relates SME (omega arith)) next (λ e. relates DME (omega arith)) next (λ e. relates RB (omega arith)) next (λ e. relates SB (omega arith))
-        next (λ e. assigns a-task) next (λ e. assigns a-junior) next (λ e. assigns a-role)
-        next (λ e. activates) next (λ e. opens) next (λ e. allocates) next (λ e. closes)
-        next (λ e. takes-back a-task) next (λ e. takes-back a-junior) next (λ e. takes-back a-role)
+    rows : Upto (λ k. Known (rowOf k)) (length table)
+    rows =
+        start next no-kind
+        next defines 0 (omega arith) next defines 1 (omega arith) next defines 2 (omega arith)
+        next relates SME (omega arith) next relates DME (omega arith) next relates RB (omega arith) next relates SB (omega arith)
+        next assigns a-task next assigns a-junior next assigns a-role
+        next activates next opens next allocates next closes
+        next takes-back a-task next takes-back a-junior next takes-back a-role
 
-    go : Dec (k < 18) → Known (rowOf k)
-    go (yes h) = upto-at seventeen k h e
-    go (no h) =
-        let past : rowOf k ≡ noRow = List·getD-eq-default table noRow {n = k} (omega arith) in
-        absurd (true≢false (sym (ap (λ (r : Row). isNothing (r .deed)) past) ∙ e))
+    go : Dec (k < length table) → Known (rowOf k)
+    go (yes h) = upto-at rows k h
+    go (no h) = subst Known (sym (no-kind-past k (omega arith))) no-kind
 
 -- An argument of this need is a number, not a mask and not unused.
 abbrev pub asksNumber : Needs → Bool
@@ -85,7 +88,7 @@ fits-lt d aTaskMask v n e = absurd (true≢false (sym n))
 pub record Holding (n : ℕ) (x y : Needs) : Type 0 where
   pub thing : asksNumber x ≡ true
   pub holder : asksNumber y ≡ true
-  pub table : n < 9
+  pub table : n < tableCount
 
 -- So it is of each of the three tables.
 pub held-holding : {n : ℕ} {x y : Needs} → Held n x y → Holding n x y
@@ -119,9 +122,9 @@ pub take-tall : {rows : ℕ → ℕ} (b a : ℕ) → Tall rows → b < 64 → Ta
 take-tall {rows} b a t hb = set-tall b (without (rows b) a) t hb (without-lt (rows b) a (t .fits b))
 
 -- A cell outside the role hand stays as it is.
-pub unwritten : (inRole inSubject : Bool) (e c v : ℕ) → inRole ≡ false → written inRole inSubject e c v ≡ v
-unfolding written
-unwritten inRole inSubject e c v q = unchosen _ v inRole q
+pub unstamped : (inRole inSubject : Bool) (e c v : ℕ) → inRole ≡ false → stampedCell inRole inSubject e c v ≡ v
+unfolding stampedCell
+unstamped inRole inSubject e c v q = unchosen _ v inRole q
 
 -- A book e after d: with its rows, and with nothing outside its places if d had nothing there.
 record Keeps (d e : Book) : Type 0 where
@@ -138,12 +141,12 @@ module _ (d : Book) (s : Sized d) where
   head-keeps n a h ha = record {
     sized = record { head = add-tall n a (s .head) (omega arith) ha; rows = s .rows; cells = s .cells };
     placed = λ p. record {
-      head-ends = set-cases (d .head) n (with (d .head n) a) (λ i x. 4 ≤ i → x ≡ 0) (λ l. absurd (omega arith)) (λ i m. p .head-ends i);
+      head-ends = set-cases (d .head) n (with (d .head n) a) (λ i x. headWords ≤ i → x ≡ 0) (λ l. absurd (omega arith)) (λ i m. p .head-ends i);
       tables-end = p .tables-end;
     };
   }
 
-  table-keeps : (n : ℕ) (f : ℕ → ℕ) → n < 9 → Tall f → Keeps d (setTable d n f)
+  table-keeps : (n : ℕ) (f : ℕ → ℕ) → n < tableCount → Tall f → Keeps d (setTable d n f)
   table-keeps n f h t = record {
     sized = record { head = s .head; rows = λ m. tall m (eqb m n); cells = s .cells };
     placed = λ p. record {
@@ -156,7 +159,7 @@ module _ (d : Book) (s : Sized d) where
       tall m true = t
       tall m false = s .rows m
 
-      outside : (m r : ℕ) → 9 ≤ m → d .row m r ≡ 0 → (b : Bool) → eqb m n ≡ b
+      outside : (m r : ℕ) → tableCount ≤ m → d .row m r ≡ 0 → (b : Bool) → eqb m n ≡ b
           → (elim b as (λ (x : Bool). ℕ → ℕ) [ true ↦ f | false ↦ d .row m ]) r ≡ 0
       outside m r l z true e = let q = eqb-true m n e in absurd (omega arith)
       outside m r l z false e = z
@@ -197,7 +200,7 @@ module _ (d : Book) (s : Sized d) where
 
       untouched : (p t : ℕ) → (64 ≤ p) ⊎ (64 ≤ t) → (allocated d a b c) .cell p t ≡ d .cell p t
       untouched p t h =
-          unwritten (eqb p b && bit (roleHand d a b) t) (bit (subjectHand d a b) t) (d .row active c) c (d .cell p t) (elsewhere p t h)
+          unstamped (eqb p b && bit (roleHand d a b) t) (bit (subjectHand d a b) t) (d .row active c) c (d .cell p t) (elsewhere p t h)
 
 -- .. also where the first role assigned becomes the active one.
 first-active-keeps : (v : ℕ) (d : Book) (a b : ℕ) → Sized d → a < 64 → b < 64 → Keeps d (firstActive v d a b)
@@ -207,7 +210,7 @@ first-active-keeps (suc v) d a b s ha hb = record { sized = s; placed = λ p. p 
 
 -- Every change whose arguments fit keeps the book in its place.
 module _ (d : Book) (s : Sized d) (a b c : ℕ) where
-  assign-keeps : (n : ℕ) → n < 9 → a < 64 → b < 64 → Keeps d (assigned n d a b)
+  assign-keeps : (n : ℕ) → n < tableCount → a < 64 → b < 64 → Keeps d (assigned n d a b)
   unfolding assigned
   assign-keeps n h ha hb = go (eqb n rolesOf)
     where
@@ -223,6 +226,7 @@ module _ (d : Book) (s : Sized d) (a b c : ℕ) where
 
   change-keeps : {row : Row} → Known row → Fitting d row a b c → Keeps d (change d (row .deed) a b c)
   unfolding change fits
+  change-keeps no-kind f = record { sized = s; placed = λ p. p }
   change-keeps (defines n h) f = head-keeps d s n a h (fits-lt d inRange a refl (f .first))
   change-keeps (relates n h) f =
       let ha = fits-lt d aTask a refl (f .first) in
@@ -245,18 +249,15 @@ module _ (d : Book) (s : Sized d) (a b c : ℕ) where
 module _ {d : Book} (q : Request) (s : Sized d) (e : refusal d q ≡ accepted) where
   blind-keeps : Keeps d (blind d q)
   unfolding blind
-  blind-keeps = let u = refusal-out d q e in change-keeps d s (q .a) (q .b) (q .c) (known-row (q .kind) (u .known)) (u .fitting)
+  blind-keeps = let u = refusal-out d q e in change-keeps d s (q .a) (q .b) (q .c) (known-row (q .kind)) (u .fitting)
 
   pub blind-sized : Sized (blind d q)
   blind-sized = blind-keeps .sized
 
   -- .. and nothing outside its places.
-  pub blind-placed : Placed d → Placed (blind d q)
+  blind-placed : Placed d → Placed (blind d q)
   blind-placed = blind-keeps .placed
 
 -- The changed book of a book of words is what its own words say.
-pub blind-written : (w : ℕ → ℕ) (q : Request) → ((i : ℕ) → w i < 2 ^ 64) → refusal (read w) q ≡ accepted
-    → read (write (blind (read w) q)) ≡ blind (read w) q
-blind-written w q fit e =
-    let s = read-sized w fit in
-    read-write (blind (read w) q) (blind-sized q s e) (blind-placed q s e (read-placed w))
+pub changed-book : (w : ℕ → ℕ) (q : Request) → Sized (read w) → refusal (read w) q ≡ accepted → read (write (blind (read w) q)) ≡ blind (read w) q
+changed-book w q s e = read-write (blind (read w) q) (blind-sized q s e) (blind-placed q s e (read-placed w))

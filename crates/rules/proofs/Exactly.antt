@@ -3,8 +3,7 @@
 use mathlib.Core.Path.{_≡_, refl, sym, ap}
 use mathlib.Core.Logic.{_⊎_, inl, inr}
 use mathlib.Core.Bool.{Bool, true, false, _&&_, _||_, not, true≢false}
-use Prim.Native.Nat.{ℕ, zero, suc, _+_, _^_, _≤_, _<_}
-use native.Mathlib.Nat.{le-refl}
+use Prim.Native.Nat.{ℕ, _+_, _^_, _≤_, _<_}
 use native.Mathlib.Omega.{arith}
 use lib.Dec.{ltb, eqb}
 use borrow.Author.Tests.{eqb-true, eq-eqb, ltb-true, ltb-false, not-false}
@@ -12,7 +11,7 @@ use Rattle.sets.specs.Mask.{within, meet}
 use Rattle.sets.specs.Search.{lowestFrom, all}
 use Rattle.sets.proofs.Logic.{and-out, and-in, or-in-l, or-in-r, or-out, or-fails-out, or-fails, not-both, refute, not-in, not-out}
 use Rattle.sets.proofs.MaskLaws.{within-out, within-in, meet-in}
-use Rattle.sets.proofs.SearchLaws.{lowest-passes, lowest-first, all-out, all-in, meet-out}
+use Rattle.sets.proofs.SearchLaws.{lowest-passes, lowest-first, lowest-from, all-out, all-in, meet-out}
 use Rattle.chains.specs.Relation.{In}
 use Rattle.rules.specs.Audit.{implies}
 
@@ -99,15 +98,15 @@ exactly-all n f x = record {
   holds = λ g. all-in n f (λ i h. x i h .holds (g i h));
 }
 
--- A search does not go below its start.
-pub lowest-from : (n i : ℕ) (f : ℕ → Bool) → i ≤ lowestFrom n i f
-unfolding lowestFrom
-lowest-from zero i f = le-refl i
-lowest-from (suc n) i f = go (f i) (lowest-from n (suc i) f)
-  where
-    go : (t : Bool) → suc i ≤ lowestFrom n (suc i) f → i ≤ elim t [ true ↦ i | false ↦ lowestFrom n (suc i) f ]
-    go true h = le-refl i
-    go false h = omega arith
+-- Two tests of all numbers below n, asked together number by number.
+pub exactly-both : (n : ℕ) (f g : ℕ → Bool) {P Q : Type 0} → Exactly (all n f) P → Exactly (all n g) Q → Exactly (all n (λ i. f i && g i)) (P × Q)
+exactly-both n f g x y = record {
+  means = λ e. (
+    x .means (all-in n f (λ i h. and-out (f i) (g i) (all-out n _ e i h) .0)),
+    y .means (all-in n g (λ i h. and-out (f i) (g i) (all-out n _ e i h) .1)),
+  );
+  holds = λ z. all-in n _ (λ i h. and-in (all-out n f (x .holds (z .0)) i h) (all-out n g (y .holds (z .1)) i h));
+}
 
 -- A search of n numbers from i on finds something unless each of them fails.
 pub unless-found : (n i : ℕ) (f : ℕ → Bool) → Unless (ltb (lowestFrom n i f) (i + n)) ((k : ℕ) → i ≤ k → k < i + n → f k ≡ false)

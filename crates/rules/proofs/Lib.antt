@@ -1,9 +1,13 @@
 pub mod Upto
 pub mod Exactly
+pub mod SaidLaws
 pub mod NumberLaws
 pub mod BookLaws
 pub mod ChangeLaws
+pub mod TableLaws
 pub mod TradeLaws
 pub mod ShortChains
 pub mod WordLaws
 pub mod AuditLaws
+pub mod AuditedLaws
+pub mod SmallLaws

@@ -3,24 +3,20 @@
 use mathlib.Core.Path.{_≡_, refl, ap, _∙_}
 use mathlib.Core.Bool.{Bool, true, false, not}
 use Prim.Native.Nat.{ℕ, _<_}
-use native.Mathlib.Omega.{arith}
 use lib.Dec.{ltb}
 use borrow.Author.Tests.{not-false}
 use Rattle.sets.specs.Search.{lowest, paired}
 use Rattle.sets.proofs.SearchLaws.{none-passes, none-found, no-pair, pair-none}
 use Rattle.rules.specs.Book.{Book, bookWords, firstBad}
 use Rattle.rules.specs.Requests.{Request, Row, rowOf, fits}
-use Rattle.rules.specs.Numbers.{Said, accepted, say, given, givenLowest, givenPair, argumentFault, stateRefusal, isNothing, refusal, conflict, orElse, judge}
-
--- A number that is said is not 0.
-pub said-not-accepted : {n x y : ℕ} → say n x y ≡ accepted → ⊥
-said-not-accepted e = let z : _≡_ {A = ℕ} 0 1 = cc in omega arith
+use Rattle.rules.specs.Numbers.{Named, Said, accepted, says, given, givenLowest, givenPair, argumentFault, stateRefusal, refusal, conflict, orElse, judge}
+use Rattle.rules.proofs.SaidLaws.{said-not-accepted}
 
 -- Where an answer is 0, its test failed and the rest gave 0 ..
-pub given-out : (t : Bool) (n x y : ℕ) (rest : Said) → given t (say n x y) rest ≡ accepted → (t ≡ false) × (rest ≡ accepted)
+pub given-out : (t : Bool) (n : ℕ) (r : Named) (rest : Said) → given t (says n r) rest ≡ accepted → (t ≡ false) × (rest ≡ accepted)
 unfolding given
-given-out true n x y rest e = absurd (said-not-accepted e)
-given-out false n x y rest e = (refl, e)
+given-out true n r rest e = absurd (said-not-accepted e)
+given-out false n r rest e = (refl, e)
 
 -- .. and back.
 pub given-in : (t : Bool) (s rest : Said) → t ≡ false → rest ≡ accepted → given t s rest ≡ accepted
@@ -30,7 +26,7 @@ given-in t s rest e f = ap (λ (x : Bool). given x s rest) e ∙ f
 -- A search for the lowest gives 0 exactly where no number below 64 passes, and the rest gives 0 ..
 pub lowest-out : (n : ℕ) (f : ℕ → Bool) (rest : Said) → givenLowest n f rest ≡ accepted → ((k : ℕ) → k < 64 → f k ≡ false) × (rest ≡ accepted)
 unfolding givenLowest
-lowest-out n f rest e = let g = given-out (ltb (lowest f) 64) n (lowest f) 0 rest e in (none-passes f (g .0), g .1)
+lowest-out n f rest e = let g = given-out (ltb (lowest f) 64) n _ rest e in (none-passes f (g .0), g .1)
 
 -- .. and back.
 pub lowest-in : (n : ℕ) (f : ℕ → Bool) (rest : Said) → ((k : ℕ) → k < 64 → f k ≡ false) → rest ≡ accepted → givenLowest n f rest ≡ accepted
@@ -41,7 +37,7 @@ lowest-in n f rest h e = given-in (ltb (lowest f) 64) _ rest (none-found f h) e
 pub pair-out : (n : ℕ) (f : ℕ → ℕ → Bool) (rest : Said) → givenPair n f rest ≡ accepted
     → ((u v : ℕ) → u < 64 → v < 64 → f u v ≡ false) × (rest ≡ accepted)
 unfolding givenPair
-pair-out n f rest e = let g = given-out (ltb (lowest (paired f)) 64) n (lowest (paired f)) _ rest e in (no-pair f (g .0), g .1)
+pair-out n f rest e = let g = given-out (ltb (lowest (paired f)) 64) n _ rest e in (no-pair f (g .0), g .1)
 
 -- .. and back.
 pub pair-in : (n : ℕ) (f : ℕ → ℕ → Bool) (rest : Said) → ((u v : ℕ) → u < 64 → v < 64 → f u v ≡ false)
@@ -53,7 +49,7 @@ pair-in n f rest h e = given-in (ltb (lowest (paired f)) 64) _ rest (pair-none f
 pub orElse-out : (s t : Said) → orElse s t ≡ accepted → (s ≡ accepted) × (t ≡ accepted)
 unfolding orElse
 orElse-out accepted t e = (refl, e)
-orElse-out (say n x y) t e = absurd (said-not-accepted e)
+orElse-out (says n r) t e = absurd (said-not-accepted e)
 
 -- .. and back.
 pub orElse-in : (s t : Said) → s ≡ accepted → t ≡ accepted → orElse s t ≡ accepted
@@ -66,46 +62,31 @@ pub record Fitting (d : Book) (row : Row) (a b c : ℕ) : Type 0 where
   pub second : fits d (row .b) b ≡ true
   pub third : fits d (row .c) c ≡ true
 
--- No argument is at fault exactly where all three fit ..
+-- Where no argument is at fault, all three fit.
 pub fault-out : (d : Book) (row : Row) (a b c : ℕ) (rest : Said) → argumentFault d row a b c rest ≡ accepted → Fitting d row a b c × (rest ≡ accepted)
 unfolding argumentFault
 fault-out d row a b c rest e =
-    let x = given-out (not (fits d (row .a) a)) 4 1 0 _ e in
-    let y = given-out (not (fits d (row .b) b)) 4 2 0 _ (x .1) in
-    let z = given-out (not (fits d (row .c) c)) 4 3 0 _ (y .1) in
+    let x = given-out (not (fits d (row .a) a)) 4 _ _ e in
+    let y = given-out (not (fits d (row .b) b)) 4 _ _ (x .1) in
+    let z = given-out (not (fits d (row .c) c)) 4 _ _ (y .1) in
     (record { first = not-false _ (x .0); second = not-false _ (y .0); third = not-false _ (z .0) }, z .1)
-
--- .. and back.
-pub fault-in : (d : Book) (row : Row) (a b c : ℕ) (rest : Said) → Fitting d row a b c → rest ≡ accepted → argumentFault d row a b c rest ≡ accepted
-unfolding argumentFault
-fault-in d row a b c rest f e =
-    given-in _ _ _ (ap not (f .first)) (given-in _ _ _ (ap not (f .second)) (given-in _ _ _ (ap not (f .third)) e))
 
 -- None of the numbers 3 to 11 applies to a request.
 pub record Unrefused (d : Book) (q : Request) : Type 0 where
-  pub known : isNothing (rowOf (q .kind) .deed) ≡ false
   pub fitting : Fitting d (rowOf (q .kind)) (q .a) (q .b) (q .c)
   pub state : stateRefusal d (rowOf (q .kind) .deed) (q .a) (q .b) (q .c) ≡ accepted
 
--- A request is not refused exactly where its kind is known, its arguments fit and the state of the book allows it ..
+-- A request that is not refused has arguments that fit, a known kind, and a book whose state allows it.
 pub refusal-out : (d : Book) (q : Request) → refusal d q ≡ accepted → Unrefused d q
 unfolding refusal
-refusal-out d q e =
-    let x = given-out (isNothing (rowOf (q .kind) .deed)) 3 0 0 _ e in
-    let y = fault-out d (rowOf (q .kind)) (q .a) (q .b) (q .c) _ (x .1) in
-    record { known = x .0; fitting = y .0; state = y .1 }
-
--- .. and back.
-pub refusal-in : (d : Book) (q : Request) → Unrefused d q → refusal d q ≡ accepted
-unfolding refusal
-refusal-in d q u = given-in _ _ _ (u .known) (fault-in d (rowOf (q .kind)) (q .a) (q .b) (q .c) _ (u .fitting) (u .state))
+refusal-out d q e = let y = fault-out d (rowOf (q .kind)) (q .a) (q .b) (q .c) _ e in record { fitting = y .0; state = y .1 }
 
 -- A request is accepted exactly where no word is bad, it is not refused and no conflict is given ..
 pub judge-out : (d : Book) (q : Request) → judge d q ≡ accepted
     → (ltb (firstBad d) bookWords ≡ false) × (refusal d q ≡ accepted) × (conflict d q ≡ accepted)
 unfolding judge
 judge-out d q e =
-    let x = given-out (ltb (firstBad d) bookWords) 2 (firstBad d) 0 _ e in
+    let x = given-out (ltb (firstBad d) bookWords) 2 _ _ e in
     let y = orElse-out (refusal d q) (conflict d q) (x .1) in
     (x .0, y .0, y .1)
 

@@ -3,25 +3,17 @@
 -- Each step so uses up one of the numbers that a step may start from, and there are 64 of them: f 0 to f 63, one fewer after each step.
 use mathlib.Core.Path.{_≡_, refl, sym, _∙_, subst}
 use mathlib.Core.Logic.{_⊎_, inl, inr}
-use Prim.Native.Nat.{ℕ, zero, suc, _≤_, _<_}
+use Prim.Native.Nat.{ℕ, zero, suc, _<_}
 use native.Mathlib.Omega.{arith}
 use native.Mathlib.Decide.{decLt, ℕ-discrete}
 use lib.Dec.{eqb}
 use borrow.Author.Tests.{eq-eqb, ne-eqb}
-use Rattle.chains.specs.Relation.{Relation, In, Step, Chain, stay, more, Steps, none, next}
-use Rattle.rules.specs.Book.{Book, juniors}
-use Rattle.rules.specs.Trade.{reach}
+use Rattle.chains.specs.Relation.{Relation, Step, Chain, stay, more, Steps, none, next, Short}
+use Rattle.rules.specs.Book.{juniors}
 use Rattle.rules.specs.Requests.{setRow}
-use Rattle.rules.specs.Meaning.{Sized}
+use Rattle.rules.specs.Chained as statements
 use Rattle.rules.proofs.BookLaws.{chosen, unchosen}
 use Rattle.rules.proofs.TradeLaws.{step-from, step-first, reach-out}
-
--- A chain of at least one step and at most k.
-pub record Short (k : ℕ) (E : Relation) (i j : ℕ) : Type 0 where
-  pub count : ℕ
-  pub some : 0 < count
-  pub few : count ≤ k
-  pub way : Steps E i count j
 
 -- A step of E that does not start from i.
 abbrev Leaving : ℕ → Relation → Relation
@@ -94,9 +86,9 @@ short (suc k) f E listed i v j e c = go (last-visit i c) (λ u w. short k (setRo
     go (inl c) after = depart e c after
     go (inr x) after = depart (x .first) (x .rest) after
 
--- Every role reached has a chain of at most 64 steps.
-pub reach-short : (d : Book) → Sized d → (r q : ℕ) → In (reach d r) q → Short 64 (Step (d .row juniors)) r q
-reach-short d s r q e =
+-- STATEMENT 4: every role reached has a chain of at most 64 steps.
+pub short-chains : statements.ShortChains
+short-chains d s r q e =
     let x = reach-out d s r q e in
     let y = step-first (x .way) (x .last) in
     short 64 (λ u. u) (Step (d .row juniors)) (λ u v p. (u, step-from (s .rows juniors) u v p, refl)) r (y .0) q (y .1) (y .2)

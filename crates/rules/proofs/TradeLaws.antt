@@ -1,19 +1,21 @@
 -- Reach, owns and the groups, as the document says them of chains: each computed set has exactly the members that it should.
+use mathlib.Core.Logic.{inl, inr}
 use Prim.Native.Nat.{ℕ, _^_, _<_}
 use native.Mathlib.Omega.{arith}
 use native.Mathlib.Decide.{decLt}
 use lib.Bits.{bitOr, or-lt}
 use lib.Pow.{pow-lt}
 use Rattle.sets.specs.Mask.{bit}
-use Rattle.sets.proofs.MaskLaws.{bit-lt, zero-none, joined-in, joined-out, joined-lt}
+use Rattle.sets.proofs.MaskLaws.{bit-lt, zero-none, in-l, in-r, in-cases, joined-in, joined-out, joined-lt}
 use Rattle.chains.specs.Relation.{Relation, In, Step, Chain, stay, more, Reaches}
 use Rattle.chains.specs.Closure.{group}
-use Rattle.chains.proofs.RelationLaws.{chain-join}
+use Rattle.chains.proofs.RelationLaws.{chain-map, chain-join}
 use Rattle.chains.proofs.ClosureLaws.{From, close-lt, close-chain, from-close, group-chain, chain-group, group-lt}
 use Rattle.rules.specs.Book.{Book, RB, SB, juniors, tasksOf, rolesOf}
 use Rattle.rules.specs.Trade.{Owner, role, subject, below, reach, ownedTasks, subjectGroup, roleGroup}
 use Rattle.rules.specs.Meaning.{Tall, Sized, OwnedFrom, Mixed}
-use Rattle.rules.proofs.Exactly.{Exactly}
+use Rattle.rules.specs.Chained.{ReachMeans, OwnsMeans, GroupsMean}
+use Rattle.rules.proofs.Exactly.{Exactly, exactly-as}
 
 -- A step goes from a number below 64 ..
 module _ {rows : ℕ → ℕ} (t : Tall rows) where
@@ -51,6 +53,21 @@ group-shows {rows} t = record {
   says = λ i j h. record { means = group-chain rows (t .fits) i j; holds = chain-group rows (t .fits) i j h };
 }
 
+-- A step of two tables mixed is a step of either ..
+mixed-out : (s r : ℕ → ℕ) (u v : ℕ) → Step (λ x. bitOr (s x) (r x)) u v → Mixed s r u v
+mixed-out s r u v e = in-cases (s u) (r u) v e
+
+-- .. and back.
+mixed-in : (s r : ℕ → ℕ) (u v : ℕ) → Mixed s r u v → Step (λ x. bitOr (s x) (r x)) u v
+mixed-in s r u v (inl e) = in-l (s u) (r u) v e
+mixed-in s r u v (inr e) = in-r (s u) (r u) v e
+
+-- So the group along the mixed rows is what chains of either lead to.
+mixed-shows : {s r : ℕ → ℕ} → Tall s → Tall r → Shows (Chain (Mixed s r)) (group (λ x. bitOr (s x) (r x)))
+mixed-shows {s} {r} x y =
+    let g = group-shows (mixed-tall x y) in
+    record { fits = g .fits; says = λ i j h. exactly-as (chain-map (mixed-out s r)) (chain-map (mixed-in s r)) (g .says i j h) }
+
 -- One step and then a chain reach ..
 pub first-step : {E : Relation} {r i q : ℕ} → E r i → Chain E i q → Reaches E r q
 first-step {r = r} e stay = record { before = r; way = stay; last = e }
@@ -70,7 +87,7 @@ module _ (d : Book) (s : Sized d) where
   -- .. and along SB and RB mixed the role group.
   pub role-group : Shows (Chain (Mixed (d .row SB) (d .row RB))) (roleGroup d)
   unfolding roleGroup
-  role-group = group-shows (mixed-tall (s .rows SB) (s .rows RB))
+  role-group = mixed-shows (s .rows SB) (s .rows RB)
 
   -- The set below m has the roles of m and all that chains of juniors lead to from them ..
   pub below-out : (m q : ℕ) → In (below d m) q → From (d .row juniors) m q
@@ -138,3 +155,21 @@ module _ (d : Book) (s : Sized d) where
     fits = λ o h. owned-lt (start o);
     says = λ o t h. record { means = owned-out (start o) t; holds = owned-in (start o) t (fit o h) };
   }
+
+-- STATEMENT 1: what reach means.
+pub reach-means : ReachMeans
+reach-means d s r q h = (reach-out d s r q, reach-in d s r q)
+
+-- STATEMENT 2: what it means to own.
+pub owns-means : OwnsMeans
+owns-means d s o t h = (
+  (owned-out d s (role o) t, owned-in d s (role o) t (role-lt d s o h)),
+  (owned-out d s (subject d o) t, owned-in d s (subject d o) t (subject-lt d s o h)),
+)
+
+-- STATEMENT 3: what the two groups mean.
+pub groups-mean : GroupsMean
+groups-mean d s t u h =
+    let x = subject-group d s .says t u h in
+    let y = role-group d s .says t u h in
+    ((x .means, x .holds), (y .means, y .holds))

@@ -1,6 +1,6 @@
 -- What holds of each number below n, said one by one: of the seventeen kinds, the nine tables, the ten rules.
 use mathlib.Core.Path.{_≡_, subst}
-use Prim.Native.Nat.{ℕ, zero, suc, _<_}
+use Prim.Native.Nat.{ℕ, zero, suc, _+_, _≤_, _<_}
 use native.Mathlib.Omega.{arith}
 use native.Mathlib.Decide.{decLt}
 
@@ -18,3 +18,13 @@ upto-at {P} (_next_ {n = n} u p) k h = go (upto-at u k) (decLt k n)
     go : (k < n → P k) → Dec (k < n) → P k
     go f (yes l) = f l
     go f (no l) = let e : n ≡ k = omega arith in subst P e p
+
+-- None of i, i + 1, .. below i + n, as a match says it of the keys before its other arms ..
+abbrev pub Unlike : ℕ → ℕ → ℕ → Type 0
+Unlike i zero k = Unit {0}
+Unlike i (suc n) k = Unlike i n k × (k ≡ i + n → ⊥)
+
+-- .. so a number from i on lies past them.
+pub past : (i n k : ℕ) → i ≤ k → Unlike i n k → i + n ≤ k
+past i zero k h u = omega arith
+past i (suc n) k h u = let g : i + n ≤ k = past i n k h (u .0) in let e : k ≡ i + n → ⊥ = u .1 in omega arith

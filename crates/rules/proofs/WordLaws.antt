@@ -1,23 +1,24 @@
 -- Well-formed: no word is bad exactly where the document's statements hold of the tables, each thing named being defined.
 -- First of one word, by its place; then of a table; then of the book.
-use mathlib.Core.Path.{_≡_, refl, sym, ap, ap₂, _∙_, subst}
-use mathlib.Core.Logic.{inl, inr}
+use mathlib.Core.Path.{_≡_, refl, sym, ap, _∙_, subst}
+use mathlib.Core.Logic.{_↔_, inl, inr}
 use mathlib.Core.Bool.{Bool, true, false}
 use Prim.Native.Nat.{ℕ, zero, suc, _+_, _-_, _*_, _^_, _<_}
 use native.Mathlib.Omega.{arith}
 use native.Mathlib.Decide.{decLt}
 use lib.Dec.{ltb, eqb}
-use lib.Pow.{pow-pos}
 use borrow.Author.Tests.{eqb-true, eqb-false, lt-ltb}
 use Rattle.sets.specs.Mask.{bit}
 use Rattle.sets.proofs.Logic.{and-out, and-in, not-both}
 use Rattle.sets.proofs.MaskLaws.{bit-lt, none-zero, zero-none}
 use Rattle.chains.specs.Relation.{In, Step}
-use Rattle.rules.specs.Book.{Book, bookWords, tasks, roles, subjects, SME, DME, RB, SB, juniors, tasksOf, rolesOf, active, orders, roleIn, subjectIn, write, badMask, names, badActive, badCell, rowTests, badRow, badCellAt, badNonzero, bad, firstBad}
-use Rattle.rules.specs.Meaning.{Tall, Sized, Between, CellWord}
+use Rattle.rules.specs.Book.{Book, bookWords, headWords, tableCount, cellsAt, tableAt, Place, placeOf, standing, roleIn, subjectIn}
+use Rattle.rules.specs.Book.{tasks, roles, subjects, SME, DME, RB, SB, juniors, tasksOf, rolesOf, active, orders}
+use Rattle.rules.specs.Book.{badMask, names, badActive, badCell, rowTests, badRow, badCellAt, badAt, bad, firstBad}
+use Rattle.rules.specs.Meaning.{Tall, Sized, Between, CellWord, Formed}
 use Rattle.rules.proofs.Upto.{Upto, start, _next_, upto-at}
 use Rattle.rules.proofs.Exactly.{Exactly, itself, exactly-eqb, exactly-within, Unless, unless-as, unless-not, unless-holds, unless-or, unless-found}
-use Rattle.rules.proofs.BookLaws.{at-head, at-row, at-cell, every-place, write-head, write-row, write-cell, write-past}
+use Rattle.rules.proofs.BookLaws.{place-head, place-row, place-cell, every-place}
 use Rattle.rules.proofs.TradeLaws.{step-from}
 
 -- A word of 0 is never bad; another is if the test t says so.
@@ -102,38 +103,24 @@ cell-word R S O t v hR hS =
 -- The test of the word at each place:
 module _ (d : Book) where
   -- it asks of word i what is asked at its place,
-  bad-at : (i v : ℕ) (t : Bool) → write d i ≡ v → badNonzero d i ≡ t → bad d i ≡ badWord v t
+  bad-at : (i : ℕ) {place : Place} → placeOf i ≡ place → bad d i ≡ badWord (standing d place) (badAt d place)
   unfolding bad
-  bad-at i v t p q = ap₂ badWord p q
+  bad-at i e = ap (λ (x : Place). badWord (standing d x) (badAt d x)) e
 
   -- in the head,
-  pub bad-head : (i : ℕ) → i < 4 → bad d i ≡ badWord (d .head i) (eqb i 3)
-  unfolding badNonzero
-  bad-head i h = bad-at i _ _ (write-head d i h) (at-head (λ i. eqb i 3) (badRow d) (badCellAt d) i h)
+  pub bad-head : (i : ℕ) → i < headWords → bad d i ≡ badWord (d .head i) (eqb i 3)
+  unfolding badAt
+  bad-head i h = bad-at i (place-head i h)
 
   -- in a table,
-  pub bad-row : (n r : ℕ) → n < 9 → r < 64 → bad d (4 + 64 * n + r) ≡ badWord (d .row n r) (badRow d n r)
-  unfolding badNonzero
-  bad-row n r h l = bad-at (4 + 64 * n + r) _ _ (write-row d n r h l) (at-row (λ i. eqb i 3) (badRow d) (badCellAt d) n r h l)
+  pub bad-row : (n r : ℕ) → n < tableCount → r < 64 → bad d (tableAt n + r) ≡ badWord (d .row n r) (badRow d n r)
+  unfolding badAt
+  bad-row n r h l = bad-at (tableAt n + r) (place-row n r h l)
 
   -- in a cell.
-  pub bad-cell : (p t : ℕ) → p < 64 → t < 64 → bad d (580 + 64 * p + t) ≡ badWord (d .cell p t) (badCellAt d p t)
-  unfolding badNonzero
-  bad-cell p t h l = bad-at (580 + 64 * p + t) _ _ (write-cell d p t h l) (at-cell (λ i. eqb i 3) (badRow d) (badCellAt d) p t h l)
-
--- A well-formed book, table by table.
-pub record Formed (d : Book) : Type 0 where
-  pub gap : d .head 3 ≡ 0
-  pub sme : Between (tasks d) (tasks d) (d .row SME)
-  pub dme : Between (tasks d) (tasks d) (d .row DME)
-  pub rb : Between (tasks d) (tasks d) (d .row RB)
-  pub sb : Between (tasks d) (tasks d) (d .row SB)
-  pub juniors-formed : Between (roles d) (roles d) (d .row juniors)
-  pub tasks-formed : Between (roles d) (tasks d) (d .row tasksOf)
-  pub roles-formed : Between (subjects d) (roles d) (d .row rolesOf)
-  pub active-formed : (s r : ℕ) → d .row active s ≡ suc r → In (subjects d) s × In (roles d) r
-  pub orders-formed : (p t : ℕ) → Step (d .row orders) p t → In (tasks d) t
-  pub cells-formed : (p t : ℕ) → CellWord (roles d) (subjects d) (d .row orders p) t (d .cell p t)
+  pub bad-cell : (p t : ℕ) → p < 64 → t < 64 → bad d (cellsAt + 64 * p + t) ≡ badWord (d .cell p t) (badCellAt d p t)
+  unfolding badAt
+  bad-cell p t h l = bad-at (cellsAt + 64 * p + t) (place-cell p t h l)
 
 -- A table of masks: each row is a good word exactly where its steps join defined things ..
 module _ (I J : ℕ) {rows : ℕ → ℕ} (t : Tall rows) (hJ : J < 2 ^ 64) where
@@ -151,7 +138,8 @@ module _ (d : Book) (s : Sized d) where
 
   -- A row of the active roles, of the orders, and a cell, are good words exactly where their statements hold.
   active-row : (r : ℕ)
-      → Unless (badWord (d .row active r) (badActive (bit (subjects d) r) (roles d) (d .row active r))) ((q : ℕ) → d .row active r ≡ suc q → In (subjects d) r × In (roles d) q)
+      → Unless (badWord (d .row active r) (badActive (bit (subjects d) r) (roles d) (d .row active r)))
+      ((q : ℕ) → d .row active r ≡ suc q → In (subjects d) r × In (roles d) q)
   active-row r = active-word (bit (subjects d) r) (roles d) (d .row active r) (head-lt 1)
 
   order-row : (p : ℕ)
@@ -179,8 +167,8 @@ module _ (d : Book) (s : Sized d) where
     cells-formed = λ p t. cell p t (decLt p 64) (decLt t 64);
   }
     where
-      row : (n : ℕ) → n < 9 → (r : ℕ) → r < 64 → badWord (d .row n r) (badRow d n r) ≡ false
-      row n h r l = sym (bad-row d n r h l) ∙ good (4 + 64 * n + r) (omega arith)
+      row : (n : ℕ) → n < tableCount → (r : ℕ) → r < 64 → badWord (d .row n r) (badRow d n r) ≡ false
+      row n h r l = sym (bad-row d n r h l) ∙ good (tableAt n + r) (omega arith)
 
       gap : d .head 3 ≡ 0
       gap = go (decLt 0 (d .head 3))
@@ -199,7 +187,7 @@ module _ (d : Book) (s : Sized d) where
       cell : (p t : ℕ) → Dec (p < 64) → Dec (t < 64) → CellWord (roles d) (subjects d) (d .row orders p) t (d .cell p t)
       cell p t (no h) l = empty p t (s .cells p t (inl (omega arith)))
       cell p t (yes h) (no l) = empty p t (s .cells p t (inr (omega arith)))
-      cell p t (yes h) (yes l) = cell-at p t .means (sym (bad-cell d p t h l) ∙ good (580 + 64 * p + t) (omega arith))
+      cell p t (yes h) (yes l) = cell-at p t .means (sym (bad-cell d p t h l) ∙ good (cellsAt + 64 * p + t) (omega arith))
 
   -- .. and where it is well-formed, no word is bad.
   formed-in : Formed d → (i : ℕ) → i < bookWords → bad d i ≡ false
@@ -213,7 +201,7 @@ module _ (d : Book) (s : Sized d) where
       head : (i : ℕ) → badWord (d .head i) (eqb i 3) ≡ false
       head i = unless-zero (d .head i) (unless-holds (exactly-eqb i 3)) .fails (λ h e. let z : d .head i ≡ 0 = ap (d .head) e ∙ f .gap in omega arith)
 
-      nine : (r : ℕ) → Upto (λ n. badWord (d .row n r) (badRow d n r) ≡ false) 9
+      nine : (r : ℕ) → Upto (λ n. badWord (d .row n r) (badRow d n r) ≡ false) tableCount
       nine r =
           start next mask-row (tasks d) (tasks d) (s .rows SME) (head-lt 0) r .fails (f .sme r)
           next mask-row (tasks d) (tasks d) (s .rows DME) (head-lt 0) r .fails (f .dme r)
@@ -225,31 +213,11 @@ module _ (d : Book) (s : Sized d) where
           next active-row r .fails (f .active-formed r)
           next order-row r .fails (λ t e. (refl, f .orders-formed r t e))
 
-  -- The search for a bad word finds one unless the book is well-formed.
+  -- So no word is bad exactly where the book is well-formed ..
+  pub no-bad-word : ((i : ℕ) → i < bookWords → bad d i ≡ false) ↔ Formed d
+  no-bad-word = (formed-out, formed-in)
+
+  -- .. and the search for a bad word finds one unless it is.
   pub well-formed : Unless (ltb (firstBad d) bookWords) (Formed d)
   unfolding firstBad
   well-formed = unless-as (λ g. formed-out (λ i h. g i (omega arith) h)) (λ f i l h. formed-in f i h) (unless-found bookWords 0 (bad d))
-
--- A cell has 64 bits, since it names a role below 64 ..
-cell-lt : (R S O t v : ℕ) → R < 2 ^ 64 → CellWord R S O t v → v < 2 ^ 64
-cell-lt R S O t v hR c = go (roleIn v) refl
-  where
-    go : (e : ℕ) → roleIn v ≡ e → v < 2 ^ 64
-    go zero q = omega arith
-    go (suc r) q = let h = bit-lt R r hR (c .role r q) in omega arith
-
--- .. and so has every word of a well-formed book.
-pub words-fit : (d : Book) → Sized d → Formed d → (i : ℕ) → write d i < 2 ^ 64
-words-fit d s f i = go (decLt i bookWords)
-  where
-    same : {x y : ℕ} → x ≡ y → y < 2 ^ 64 → x < 2 ^ 64
-    same e h = subst (λ (z : ℕ). z < 2 ^ 64) (sym e) h
-
-    go : Dec (i < bookWords) → write d i < 2 ^ 64
-    go (no h) = same (write-past d s i (omega arith)) (pow-pos 64)
-    go (yes h) =
-        every-place (λ i. write d i < 2 ^ 64)
-        (λ i h. same (write-head d i h) (s .head .fits i))
-        (λ n r h l. same (write-row d n r h l) (s .rows n .fits r))
-        (λ p t h l. same (write-cell d p t h l) (cell-lt (roles d) (subjects d) (d .row orders p) t (d .cell p t) (s .head .fits 1) (f .cells-formed p t)))
-        i h

@@ -2,52 +2,50 @@
 -- Meaning.antt says of each rule what it stands for, over relations; proofs/AuditLaws.antt shows that the test holds exactly then.
 use mathlib.Core.Bool.{Bool, true, false, _&&_, _||_, not}
 use mathlib.Core.List.{List, [], _∷_}
-use Prim.Native.Nat.{ℕ, suc, _+_, _-_, _/_, _%_}
+use Prim.Native.Nat.{ℕ, _+_}
 use lib.Dec.{ltb, eqb}
 use lib.ListN.{getD}
 use Rattle.sets.specs.Mask.{bit, meet}
 use Rattle.sets.specs.Search.{lowestFrom, all}
-use Rattle.chains.specs.Closure.{group}
 use Rattle.rules.specs.Book.{Book, bookWords, SME, DME, RB, SB, orders, roleIn, subjectIn, read, firstBad}
-use Rattle.rules.specs.Trade.{Owner, role, subject, reach, ownedTasks, mixed, excludes, subjectGroup, roleGroup}
-use Rattle.rules.specs.Numbers.{Said, accepted, say, given}
+use Rattle.rules.specs.Trade.{Owner, role, subject, reach, ownedTasks, excludes, subjectGroup, roleGroup}
+use Rattle.rules.specs.Numbers.{Said, accepted, say, sayX, given}
 
 abbrev pub implies : Bool → Bool → Bool
 implies true t = t
 implies false t = true
 
--- what holds of each of the four pair tables
-abbrev pub ofFour : ((ℕ → ℕ) → Bool) → Book → Bool
-ofFour f d = f (d .row SME) && (f (d .row DME) && (f (d .row RB) && f (d .row SB)))
+-- What a rule asks of one number: of task x in 1 to 5, 9 and 10, of role x in 6 and 7, of subject x in 8.
+abbrev pub Rule : Type 0
+Rule = Book → ℕ → Bool
 
--- 1. No task is in its own row of the four pair tables.
-unfoldable pub noneOwn : (ℕ → ℕ) → Bool
-noneOwn rows = all 64 (λ t. not (bit (rows t) t))
+-- what is asked of x in each of the four pair tables
+abbrev pub ofFour : ((ℕ → ℕ) → ℕ → Bool) → Rule
+ofFour f d x = f (d .row SME) x && (f (d .row DME) x && (f (d .row RB) x && f (d .row SB) x))
+
+-- 1. No task is in its own row of the four pair tables.  6. No role reaches itself.
+unfoldable pub notOwn : (ℕ → ℕ) → ℕ → Bool
+notOwn sets x = not (bit (sets x) x)
 
 -- 2. The four pair tables are symmetric.
-unfoldable pub symmetric : (ℕ → ℕ) → Bool
-symmetric rows = all 64 (λ u. all 64 (λ v. implies (bit (rows u) v) (bit (rows v) u)))
+abbrev pub twoSided : (ℕ → ℕ) → ℕ → ℕ → Bool
+twoSided rows u v = implies (bit (rows u) v) (bit (rows v) u)
+
+unfoldable pub symmetric : (ℕ → ℕ) → ℕ → Bool
+symmetric rows u = all 64 (twoSided rows u)
 
 -- 3. No pair is both SME and DME.  4. No SME pair lies in one role group.  5. No DME pair lies in one subject group.
--- No row of the one family meets that of the other.
-unfoldable pub apart : (ℕ → ℕ) → (ℕ → ℕ) → Bool
-apart rows sets = all 64 (λ u. not (meet (rows u) (sets u)))
-
--- 6. No role reaches itself.
-unfoldable pub noCycle : Book → Bool
-noCycle d = all 64 (λ r. not (bit (reach d r) r))
+-- The row of the one family does not meet the set of the other.
+unfoldable pub apart : (ℕ → ℕ) → (ℕ → ℕ) → ℕ → Bool
+apart rows sets u = not (meet (rows u) (sets u))
 
 -- the set m holds no pair of the rows
 unfoldable pub pairFree : (ℕ → ℕ) → ℕ → Bool
 pairFree rows m = all 64 (λ u. not (bit m u && meet (rows u) m))
 
 -- 7, 8. No role, no subject, owns both tasks of an SME pair.
-unfoldable pub ownersFree : Book → Owner → Bool
-ownersFree d start = all 64 (λ o. pairFree (d .row SME) (ownedTasks d (start o)))
-
--- u and v are tasks of order p
-abbrev pub inOrder : Book → ℕ → ℕ → ℕ → Bool
-inOrder d p u v = bit (d .row orders p) u && bit (d .row orders p) v
+unfoldable pub ownerFree : Book → Owner → ℕ → Bool
+ownerFree d start o = pairFree (d .row SME) (ownedTasks d (start o))
 
 abbrev pub sameSubject : Book → ℕ → ℕ → ℕ → Bool
 sameSubject d p u v = eqb (subjectIn (d .cell p u)) (subjectIn (d .cell p v))
@@ -55,56 +53,61 @@ sameSubject d p u v = eqb (subjectIn (d .cell p u)) (subjectIn (d .cell p v))
 abbrev pub sameRole : Book → ℕ → ℕ → ℕ → Bool
 sameRole d p u v = eqb (roleIn (d .cell p u)) (roleIn (d .cell p v))
 
+-- what is asked of task u in order p, if it is a task of the order, beside each task v of the order
+abbrev pub inOrder : (ℕ → ℕ → ℕ → Bool) → Book → ℕ → ℕ → Bool
+inOrder f d u p = implies (bit (d .row orders p) u) (all 64 (λ v. implies (bit (d .row orders p) v) (f p u v)))
+
+unfoldable pub inOrders : (ℕ → ℕ → ℕ → Bool) → Book → ℕ → Bool
+inOrders f d u = all 64 (inOrder f d u)
+
 -- 9. In one open order, no two cells of an excluding pair have the same S above 0.
 abbrev pub handsApart : Book → ℕ → ℕ → ℕ → Bool
-handsApart d u p v = implies (inOrder d p u v && excludes d u v) (not (sameSubject d p u v) || eqb (subjectIn (d .cell p u)) 0)
+handsApart d p u v = implies (excludes d u v) (not (sameSubject d p u v) || eqb (subjectIn (d .cell p u)) 0)
 
 -- 10. In one open order, looking only at the cells of its own tasks:
 -- those of one subject group have all the same S, and those of one role group all the same E (0 counts as a value).
 abbrev pub handsTogether : Book → ℕ → ℕ → ℕ → ℕ → ℕ → Bool
-handsTogether d bySubject byRole u p v = implies (inOrder d p u v) (implies (bit bySubject v) (sameSubject d p u v) && implies (bit byRole v) (sameRole d p u v))
-
--- of a task u: in every order, beside every task
-abbrev pub everyCell : (ℕ → ℕ → Bool) → Bool
-everyCell f = all 64 (λ p. all 64 (λ v. f p v))
-
-unfoldable pub rule9 : Book → Bool
-rule9 d = all 64 (λ u. everyCell (handsApart d u))
-
-unfoldable pub rule10 : Book → Bool
-rule10 d = all 64 (λ u. everyCell (handsTogether d (subjectGroup d u) (roleGroup d u) u))
+handsTogether d bySubject byRole p u v = implies (bit bySubject v) (sameSubject d p u v) && implies (bit byRole v) (sameRole d p u v)
 
 -- The ten rules in their order; place 0 is no rule.
-unfoldable pub rules : List (Book → Bool)
+unfoldable pub rules : List Rule
 rules =
-    (λ d. true)
-    ∷ ofFour noneOwn
+    (λ d x. true)
+    ∷ ofFour notOwn
     ∷ ofFour symmetric
     ∷ (λ d. apart (d .row SME) (d .row DME))
     ∷ (λ d. apart (d .row SME) (roleGroup d))
     ∷ (λ d. apart (d .row DME) (subjectGroup d))
-    ∷ noCycle
-    ∷ (λ d. ownersFree d role)
-    ∷ (λ d. ownersFree d (subject d))
-    ∷ rule9
-    ∷ rule10
+    ∷ (λ d. notOwn (reach d))
+    ∷ (λ d. ownerFree d role)
+    ∷ (λ d. ownerFree d (subject d))
+    ∷ (λ d. inOrders (handsApart d) d)
+    ∷ (λ d u. inOrders (handsTogether d (subjectGroup d u) (roleGroup d u)) d u)
     ∷ []
 
--- rule n is broken
+-- rule n is kept at x
+unfoldable pub keptAt : Book → ℕ → ℕ → Bool
+keptAt d n x = (getD rules n (λ d x. true)) d x
+
+-- rule n is broken: it is not kept at every number
 unfoldable pub broken : Book → ℕ → Bool
-broken d n = not ((getD rules n (λ d. true)) d)
+broken d n = not (all 64 (keptAt d n))
+
+-- how many rules there are
+abbrev pub ruleCount : ℕ
+ruleCount = 10
 
 -- the lowest broken rule; 11 where none is
 unfoldable pub firstBroken : Book → ℕ
-firstBroken d = lowestFrom 10 1 (broken d)
+firstBroken d = lowestFrom ruleCount 1 (broken d)
 
 -- 2 as above, else 40 + n for the lowest broken rule n, else 0
 unfoldable pub audit : Book → Said
 audit d =
     let i = firstBad d in
     let n = firstBroken d in
-    given (ltb i bookWords) (say 2 i 0) (given (ltb n 11) (say (40 + n) 0 0) accepted)
+    given (ltb i bookWords) (sayX 2 i) (given (ltb n (ruleCount + 1)) (say (40 + n)) accepted)
 
 -- THE AUDIT of a lent slice of n words w
 unfoldable pub audited : ℕ → (ℕ → ℕ) → Said
-audited n w = given (not (eqb n bookWords)) (say 1 0 0) (audit (read w))
+audited n w = given (not (eqb n bookWords)) (say 1) (audit (read w))

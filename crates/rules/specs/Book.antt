@@ -8,11 +8,41 @@ use lib.ListN.{getD}
 use Rattle.sets.specs.Mask.{bit, within, only}
 use Rattle.sets.specs.Search.{lowestFrom}
 
--- A book is a lent slice of exactly 4,676 words.
+-- A book is a lent slice of exactly 4,676 words: four at the head, nine tables of 64 rows, and from word 580 on the cells.
 abbrev pub bookWords : ℕ
 bookWords = 4676
 
--- The four words at the head; nine tables of 64 rows; a cell for each order and task.
+abbrev pub headWords : ℕ
+headWords = 4
+
+abbrev pub tableCount : ℕ
+tableCount = 9
+
+abbrev pub cellsAt : ℕ
+cellsAt = 580
+
+-- Where the rows of table n begin.
+abbrev pub tableAt : ℕ → ℕ
+tableAt n = headWords + 64 * n
+
+-- What a word is: one of the head, row r of table n, or the cell of order p, task t.
+pub data Place : Type 0 where
+  inHead : ℕ → Place
+  inTable : ℕ → ℕ → Place
+  inCell : ℕ → ℕ → Place
+
+-- What word i is.
+unfoldable pub placeOf : ℕ → Place
+placeOf i =
+    elim (ltb i headWords) [
+      | true ↦ inHead i
+      | false ↦ elim (ltb i cellsAt) [
+        | true ↦ inTable ((i - headWords) / 64) ((i - headWords) % 64)
+        | false ↦ inCell ((i - cellsAt) / 64) ((i - cellsAt) % 64)
+      ]
+    ]
+
+-- A book, read: its head, its tables by number, its cells by order and task.
 pub record Book : Type 0 where
   pub head : ℕ → ℕ
   pub row : ℕ → ℕ → ℕ
@@ -28,7 +58,7 @@ roles d = d .head 1
 abbrev pub subjects : Book → ℕ
 subjects d = d .head 2
 
--- The tables, by number: row r of table n is word 4 + 64 n + r.
+-- The tables, by number.
 -- words 4..67: static exclusion (SME), a task mask for each task
 abbrev pub SME : ℕ
 SME = 0
@@ -65,28 +95,36 @@ active = 7
 abbrev pub orders : ℕ
 orders = 8
 
--- 580..4675: cell of order p, task t, at 580 + 64 p + t. Outside its place nothing is read.
+-- Each word is read at its place; 580..4675: cell of order p, task t, at 580 + 64 p + t. Outside its place nothing is read.
 unfoldable pub read : (ℕ → ℕ) → Book
 read w = record {
-  head = λ i. only (ltb i 4) (w i);
-  row = λ n r. only (ltb n 9 && ltb r 64) (w (4 + 64 * n + r));
-  cell = λ p t. only (ltb p 64 && ltb t 64) (w (580 + 64 * p + t));
+  head = λ i. only (ltb i headWords) (w i);
+  row = λ n r. only (ltb n tableCount && ltb r 64) (w (tableAt n + r));
+  cell = λ p t. only (ltb p 64 && ltb t 64) (w (cellsAt + 64 * p + t));
 }
 
--- The word that stands at i when the tables are written out again.
+-- What stands at a place ..
+abbrev pub standing : Book → Place → ℕ
+standing d (inHead i) = d .head i
+standing d (inTable n r) = d .row n r
+standing d (inCell p t) = d .cell p t
+
+-- .. is the word there when the tables are written out again.
 unfoldable pub write : Book → ℕ → ℕ
-write d i =
-    elim (ltb i 4) [
-      | true ↦ d .head i
-      | false ↦ elim (ltb i 580) [ true ↦ d .row ((i - 4) / 64) ((i - 4) % 64) | false ↦ d .cell ((i - 580) / 64) ((i - 580) % 64) ]
-    ]
+write d i = standing d (placeOf i)
 
 -- A cell is 128E + S with S below 128: E is 0 or executing role + 1, S is 0 or executing subject + 1.
+abbrev pub cellBase : ℕ
+cellBase = 128
+
+abbrev pub cellOf : ℕ → ℕ → ℕ
+cellOf e s = cellBase * e + s
+
 abbrev pub roleIn : ℕ → ℕ
-roleIn v = v / 128
+roleIn v = v / cellBase
 
 abbrev pub subjectIn : ℕ → ℕ
-subjectIn v = v % 128
+subjectIn v = v % cellBase
 
 -- Bad words, of a word v that is not 0.
 -- a row of an undefined thing, or a mask that names something undefined
@@ -142,16 +180,14 @@ unfoldable pub badCellAt : Book → ℕ → ℕ → Bool
 badCellAt d p t = badCell (bit (d .row orders p) t) (roles d) (subjects d) (d .cell p t)
 
 -- Of the head, word 3 must be 0; words 0 to 2 are never bad.
-unfoldable pub badNonzero : Book → ℕ → Bool
-badNonzero d i =
-    elim (ltb i 4) [
-      | true ↦ eqb i 3
-      | false ↦ elim (ltb i 580) [ true ↦ badRow d ((i - 4) / 64) ((i - 4) % 64) | false ↦ badCellAt d ((i - 580) / 64) ((i - 580) % 64) ]
-    ]
+unfoldable pub badAt : Book → Place → Bool
+badAt d (inHead i) = eqb i 3
+badAt d (inTable n r) = badRow d n r
+badAt d (inCell p t) = badCellAt d p t
 
 -- word i of the book is bad; a word of 0 never is
 unfoldable pub bad : Book → ℕ → Bool
-bad d i = elim (eqb (write d i) 0) [ true ↦ false | false ↦ badNonzero d i ]
+bad d i = let place = placeOf i in elim (eqb (standing d place) 0) [ true ↦ false | false ↦ badAt d place ]
 
 -- the lowest bad word; 4,676 where the book is well-formed
 unfoldable pub firstBad : Book → ℕ

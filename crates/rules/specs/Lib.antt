@@ -4,3 +4,7 @@ pub mod Requests
 pub mod Numbers
 pub mod Audit
 pub mod Meaning
+pub mod Audited
+pub mod Chained
+pub mod Small
+pub mod Computed

@@ -4,13 +4,19 @@
 -- The statements go over the tables that they read, so that a change to another table leaves them as they are.
 use mathlib.Core.Path.{_≡_}
 use mathlib.Core.Logic.{_⊎_}
-use Prim.Native.Nat.{ℕ, suc, _-_, _/_, _%_, _^_, _≤_, _<_}
-use lib.Bits.{bitOr}
+use mathlib.Core.List.{List, [], _∷_}
+use Prim.Native.Nat.{ℕ, suc, _^_, _≤_, _<_}
+use lib.ListN.{getD}
 use Rattle.chains.specs.Relation.{Relation, Subset, In, Step, Chain, Reaches}
-use Rattle.rules.specs.Book.{Book, tasks, roles, subjects, SME, DME, RB, SB, juniors, tasksOf, rolesOf, active, orders, roleIn, subjectIn}
+use Rattle.rules.specs.Book.{Book, bookWords, tasks, roles, subjects, roleIn, subjectIn}
+use Rattle.rules.specs.Book.{SME, DME, RB, SB, juniors, tasksOf, rolesOf, active, orders}
 use Rattle.rules.specs.Trade.{Owner, role, subject}
 
--- Every row has 64 bits, a table has 64 rows, and there is no cell past order 63 or task 63.
+-- Every word of a book has 64 bits.
+abbrev pub Fits : (ℕ → ℕ) → Type 0
+Fits w = (i : ℕ) → i < bookWords → w i < 2 ^ 64
+
+-- So in its tables every row has 64 bits, a table has 64 rows, and there is no cell past order 63 or task 63.
 pub record Tall (rows : ℕ → ℕ) : Type 0 where
   pub fits : (i : ℕ) → rows i < 2 ^ 64
   pub ends : (i : ℕ) → 64 ≤ i → rows i ≡ 0
@@ -29,6 +35,20 @@ pub record CellWord (R S O t v : ℕ) : Type 0 where
   pub in-order : 0 < v → In O t
   pub role : (r : ℕ) → roleIn v ≡ suc r → In R r
   pub subject : (s : ℕ) → subjectIn v ≡ suc s → In S s × (0 < roleIn v)
+
+-- A well-formed book, table by table.
+pub record Formed (d : Book) : Type 0 where
+  pub gap : d .head 3 ≡ 0
+  pub sme : Between (tasks d) (tasks d) (d .row SME)
+  pub dme : Between (tasks d) (tasks d) (d .row DME)
+  pub rb : Between (tasks d) (tasks d) (d .row RB)
+  pub sb : Between (tasks d) (tasks d) (d .row SB)
+  pub juniors-formed : Between (roles d) (roles d) (d .row juniors)
+  pub tasks-formed : Between (roles d) (tasks d) (d .row tasksOf)
+  pub roles-formed : Between (subjects d) (roles d) (d .row rolesOf)
+  pub active-formed : (s r : ℕ) → d .row active s ≡ suc r → In (subjects d) s × In (roles d) r
+  pub orders-formed : (p t : ℕ) → Step (d .row orders) p t → In (tasks d) t
+  pub cells-formed : (p t : ℕ) → CellWord (roles d) (subjects d) (d .row orders p) t (d .cell p t)
 
 -- Rule 1. No task is in its own row.
 abbrev pub NoneOwn : Relation → Type 0
@@ -76,9 +96,9 @@ pub record Pairs (T : ℕ) (rows : ℕ → ℕ) : Type 0 where
   pub rule1 : NoneOwn (Step rows)
   pub rule2 : Symmetric (Step rows)
 
--- SB and RB mixed.
+-- SB and RB mixed: a step of either.
 abbrev pub Mixed : (ℕ → ℕ) → (ℕ → ℕ) → Relation
-Mixed s r = Step (λ u. bitOr (s u) (r u))
+Mixed s r u v = Step s u v ⊎ Step r u v
 
 -- The pair tables: x is SME, y DME, r RB, s SB.
 pub record Bindings (T : ℕ) (x y r s : ℕ → ℕ) : Type 0 where
@@ -98,6 +118,7 @@ pub record Ranks (T R S : ℕ) (j g h act : ℕ → ℕ) : Type 0 where
   pub active-formed : (s r : ℕ) → act s ≡ suc r → In S s × In R r
   pub rule6 : NoCycle (Step j)
 
+-- SME or DME.
 abbrev pub Excludes : (ℕ → ℕ) → (ℕ → ℕ) → Relation
 Excludes x y u v = Step x u v ⊎ Step y u v
 
@@ -125,3 +146,27 @@ pub record Sound (d : Book) : Type 0 where
   pub orders : Orders (tasks d) (roles d) (subjects d) (d .row SME) (d .row DME) (d .row RB) (d .row SB) (d .row orders) (d .cell)
   pub rule7 : OwnersFree d role
   pub rule8 : OwnersFree d (subject d)
+
+-- What holds of each of the four pair tables.
+abbrev pub OfFour : ((ℕ → ℕ) → Type 0) → Book → Type 0
+OfFour P d = P (d .row SME) × (P (d .row DME) × (P (d .row RB) × P (d .row SB)))
+
+-- The ten rules as sentences, in their order; place 0 is no rule.
+abbrev pub sentences : List (Book → Type 0)
+sentences =
+    (λ d. Unit {0})
+    ∷ OfFour (λ rows. NoneOwn (Step rows))
+    ∷ OfFour (λ rows. Symmetric (Step rows))
+    ∷ (λ d. Disjoint (Step (d .row SME)) (Step (d .row DME)))
+    ∷ (λ d. Apart (Step (d .row SME)) (Mixed (d .row SB) (d .row RB)))
+    ∷ (λ d. Apart (Step (d .row DME)) (Step (d .row SB)))
+    ∷ (λ d. NoCycle (Step (d .row juniors)))
+    ∷ (λ d. OwnersFree d role)
+    ∷ (λ d. OwnersFree d (subject d))
+    ∷ (λ d. HandsApart (d .row orders) (d .cell) (Excludes (d .row SME) (d .row DME)))
+    ∷ (λ d. OneValue (d .row orders) (d .cell) (Step (d .row SB)) subjectIn × OneValue (d .row orders) (d .cell) (Mixed (d .row SB) (d .row RB)) roleIn)
+    ∷ []
+
+-- The book keeps rule n.
+abbrev pub Keeps : Book → ℕ → Type 0
+Keeps d n = (getD sentences n (λ d. Unit {0})) d

@@ -1,12 +1,12 @@
 -- Document 01, "Requests": the seventeen kinds, the fixed table of what each argument must be, and the change of each kind.
 use mathlib.Core.Bool.{Bool, true, false, _&&_, not}
 use mathlib.Core.List.{List, [], _∷_}
-use Prim.Native.Nat.{ℕ, zero, suc, _+_, _-_, _*_}
+use Prim.Native.Nat.{ℕ, zero, suc}
 use lib.Dec.{ltb, eqb}
 use lib.Bits.{bitAnd}
 use lib.ListN.{getD}
 use Rattle.sets.specs.Mask.{bit, with, without, within}
-use Rattle.rules.specs.Book.{Book, tasks, roles, subjects, SME, DME, RB, SB, juniors, tasksOf, rolesOf, active, orders, subjectIn}
+use Rattle.rules.specs.Book.{Book, tasks, roles, subjects, SME, DME, RB, SB, juniors, tasksOf, rolesOf, active, orders, cellOf, subjectIn}
 use Rattle.rules.specs.Trade.{subjectGroup, roleGroup}
 
 -- A request is a kind and three numbers.
@@ -132,7 +132,9 @@ firstActive zero d a b = setActive d a b
 firstActive (suc v) d a b = d
 
 unfoldable pub assigned : ℕ → Book → ℕ → ℕ → Book
-assigned n d a b = elim (eqb n rolesOf) [ true ↦ firstActive (d .row active b) (setTable d n (addTo (d .row n) b a)) a b | false ↦ setTable d n (addTo (d .row n) b a) ]
+assigned n d a b =
+    let added = setTable d n (addTo (d .row n) b a) in
+    elim (eqb n rolesOf) [ true ↦ firstActive (d .row active b) added a b | false ↦ added ]
 
 -- the tasks of order b in the role group of a, and in its subject group
 unfoldable pub roleHand : Book → ℕ → ℕ → ℕ
@@ -142,15 +144,16 @@ unfoldable pub subjectHand : Book → ℕ → ℕ → ℕ
 subjectHand d a b = bitAnd (subjectGroup d a) (d .row orders b)
 
 -- a cell after kind 13: E in the role group, S too in the subject group; e is c's active role, plus 1
-unfoldable pub written : Bool → Bool → ℕ → ℕ → ℕ → ℕ
-written inRole inSubject e c v = elim inRole [ true ↦ elim inSubject [ true ↦ 128 * e + suc c | false ↦ 128 * e + subjectIn v ] | false ↦ v ]
+unfoldable pub stampedCell : Bool → Bool → ℕ → ℕ → ℕ → ℕ
+stampedCell inRole inSubject e c v =
+    elim inRole [ true ↦ elim inSubject [ true ↦ cellOf e (suc c) | false ↦ cellOf e (subjectIn v) ] | false ↦ v ]
 
 -- Kind 13 changes only cells of order b's tasks: E in the role hand, S too in the subject hand.
 abbrev pub stamped : Book → ℕ → ℕ → ℕ → ℕ → ℕ → Book
 stamped d b byRole bySubject e c = record {
   head = d .head;
   row = d .row;
-  cell = λ p t. written (eqb p b && bit byRole t) (bit bySubject t) e c (d .cell p t);
+  cell = λ p t. stampedCell (eqb p b && bit byRole t) (bit bySubject t) e c (d .cell p t);
 }
 
 abbrev pub allocated : Book → ℕ → ℕ → ℕ → Book

@@ -1,7 +1,7 @@
 -- Document 01, "Words of the trade": reach, owns, the two groups, excludes.
 -- proofs/TradeLaws.antt shows that each computed set is what the document says of chains.
 use mathlib.Core.Bool.{Bool, _||_}
-use Prim.Native.Nat.{ℕ, _-_, _^_}
+use Prim.Native.Nat.{ℕ, _^_}
 use lib.Bits.{bitOr}
 use Rattle.sets.specs.Mask.{bit, joined}
 use Rattle.chains.specs.Closure.{close, group}
@@ -32,9 +32,6 @@ ownsRole d start r = bit (below d start) r
 -- .. and the tasks assigned to all these.
 unfoldable pub ownedTasks : Book → ℕ → ℕ
 ownedTasks d start = joined 64 (d .row tasksOf) (below d start)
-
-abbrev pub owns : Book → ℕ → ℕ → Bool
-owns d start t = bit (ownedTasks d start) t
 
 -- The subject group of t is t and all tasks joined to it by chains of SB.
 unfoldable pub subjectGroup : Book → ℕ → ℕ

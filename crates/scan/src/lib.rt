@@ -1,9 +1,9 @@
 // Bad words: whether a word that is not 0 may stand where it stands, and the lowest that may not.
+use book::Place;
 ghost use mathlib.Core.Path.{_≡_};
 ghost use Prim.Native.Nat.{_<_};
-ghost use lib.ListN.{length};
-ghost use Rattle.rules.specs.Book.{names, badMask, badActive, badCell, badRow, badCellAt, badNonzero, firstBad};
-ghost use Rattle.book.specs.Slice.{tables};
+ghost use Rattle.rules.specs.Book.{bookWords, tableCount, placeOf, names, badMask, badActive, badCell, badRow, badCellAt, badAt, firstBad};
+ghost use Rattle.book.specs.Slice.{tables, Full};
 
 // Whether v is 0, or one more than a number of the set.
 fn is_in(set: u64, v: u64) -> bool
@@ -36,14 +36,14 @@ fn is_bad_active(defined: bool, known: u64, v: u64) -> bool
 fn is_bad_cell(in_order: bool, roles: u64, subjects: u64, v: u64) -> bool
     ensures { λ r. ⌜ r ≡ badCell in_order roles subjects v ⌝ }
 {
-    let role = v / 128;
-    let subject = v % 128;
+    let role = book::role_in(v);
+    let subject = book::subject_in(v);
     !in_order | (!is_in(roles, role) | (!is_in(subjects, subject) | (role == 0)))
 }
 
 // Whether row r of a table is bad, where it is not 0.
 fn is_bad_row(book: &[u64], table: u64, r: u64) -> bool
-    requires { ⌜ (length (now book) ≡ 4676) × (table < 9) × (r < 64) ⌝ }
+    requires { ⌜ Full (now book) × (table < tableCount) × (r < 64) ⌝ }
     ensures { λ v. ⌜ v ≡ badRow (tables (now (book .entry))) table r ⌝ }
 {
     let v = book::row(book, table, r);
@@ -62,7 +62,7 @@ fn is_bad_row(book: &[u64], table: u64, r: u64) -> bool
 
 // Whether the cell of an order and a task is bad, where it is not 0.
 fn is_bad_cell_at(book: &[u64], order: u64, task: u64) -> bool
-    requires { ⌜ (length (now book) ≡ 4676) × (order < 64) × (task < 64) ⌝ }
+    requires { ⌜ Full (now book) × (order < 64) × (task < 64) ⌝ }
     ensures { λ r. ⌜ r ≡ badCellAt (tables (now (book .entry))) order task ⌝ }
 {
     let in_order = sets::has(book::row(book, book::ORDERS, order), task);
@@ -71,32 +71,30 @@ fn is_bad_cell_at(book: &[u64], order: u64, task: u64) -> bool
     is_bad_cell(in_order, roles, subjects, book::cell(book, order, task))
 }
 
-// Whether word i is bad, where it is not 0. Of the head only word 3 can be.
-fn is_bad(book: &[u64], i: u64) -> bool
-    requires { ⌜ (length (now book) ≡ 4676) × (i < 4676) ⌝ }
-    ensures { λ r. ⌜ r ≡ badNonzero (tables (now (book .entry))) i ⌝ }
+// Whether the word at a place is bad, where it is not 0. Of the head only word 3 can be.
+fn is_bad_at(book: &[u64], i: u64) -> bool
+    requires { ⌜ Full (now book) × (i < bookWords) ⌝ }
+    ensures { λ r. ⌜ r ≡ badAt (tables (now (book .entry))) (placeOf i) ⌝ }
 {
-    if i < 4 {
-        return i == 3;
+    match book::place_of(i) {
+        Place::Head(i) => i == 3,
+        Place::Row(table, r) => is_bad_row(book, table, r),
+        Place::Cell(order, task) => is_bad_cell_at(book, order, task),
     }
-    if i < 580 {
-        return is_bad_row(book, (i - 4) / 64, (i - 4) % 64);
-    }
-    is_bad_cell_at(book, (i - 580) / 64, (i - 580) % 64)
 }
 
 // The lowest bad word; 4,676 where the book is well-formed. Most words are 0, and a word of 0 is never bad.
 pub fn first_bad(book: &[u64]) -> u64
-    requires { ⌜ length (now book) ≡ 4676 ⌝ }
+    requires { ⌜ Full (now book) ⌝ }
     ensures { λ r. ⌜ r ≡ firstBad (tables (now (book .entry))) ⌝ }
 {
-    for i in 0..4676 {
+    for i in 0..book::END {
         if book[i as usize] == 0 {
             continue;
         }
-        if is_bad(book, i) {
+        if is_bad_at(book, i) {
             return i;
         }
     }
-    4676
+    book::END
 }

@@ -1,16 +1,16 @@
 -- How a nested search shows that it gives the pair of a test, and how a caller says the pair as an answer.
 use mathlib.Core.Path.{_≡_, refl, sym, ap, _∙_}
-use mathlib.Core.Bool.{Bool, true, false, _&&_}
-use Prim.Native.Nat.{ℕ, _≤_, _<_}
+use mathlib.Core.Bool.{Bool, true, false, _&&_, not}
+use Prim.Native.Nat.{ℕ, _-_, _^_, _≤_, _<_}
 use native.Mathlib.Omega.{arith}
 use lib.Dec.{ltb}
 use lib.Bits.{bitAnd}
 use borrow.Author.Tests.{lt-ltb, ltb-false}
 use Rattle.sets.specs.Mask.{bit, only}
 use Rattle.sets.specs.Search.{lowest, paired}
-use Rattle.sets.proofs.MaskLaws.{bit-and, bit-none}
-use Rattle.sets.proofs.SearchLaws.{lowest-most, none-found, searchRest, search-at, search-out}
-use Rattle.rules.specs.Numbers.{Said, say, given, givenPair, between}
+use Rattle.sets.proofs.MaskLaws.{bit-and, bit-none, bit-not}
+use Rattle.sets.proofs.SearchLaws.{lowest-most, lowest-same, none-found, searchRest, search-at, search-out}
+use Rattle.rules.specs.Numbers.{Said, sayXY, given, givenPair, outside, between}
 use Rattle.search.specs.declared.Found.{Found}
 use Rattle.search.specs.declared.Found.the-variants.{Pair, Nothing}
 use Rattle.search.specs.Pairs.{pairOf, foundPair, sayPair, partners}
@@ -55,12 +55,12 @@ module _ (f : ℕ → ℕ → Bool) where
   pair-said n rest = go (lowest (paired f)) (ltb (lowest (paired f)) 64)
     where
       go : (x : ℕ) (t : Bool) → sayPair n (elim t [ true ↦ Pair x (lowest (f x)) | false ↦ Nothing ]) rest
-          ≡ (elim t as (λ (z : Bool). Said) [ true ↦ say n x (lowest (f x)) | false ↦ rest ])
+          ≡ (elim t as (λ (z : Bool). Said) [ true ↦ sayXY n x (lowest (f x)) | false ↦ rest ])
       go x true = refl
       go x false = refl
 
   -- For a caller of a search that gave v: where v is a pair, the number is given with it ..
-  pub given-pair : (n : ℕ) (rest : Said) {v : Found} {x y : ℕ} → v ≡ foundPair f → v ≡ Pair x y → givenPair n f rest ≡ say n x y
+  pub given-pair : (n : ℕ) (rest : Said) {v : Found} {x y : ℕ} → v ≡ foundPair f → v ≡ Pair x y → givenPair n f rest ≡ sayXY n x y
   given-pair n rest e p = sym (pair-said n rest) ∙ ap (λ (w : Found). sayPair n w rest) (sym e ∙ p)
 
   -- .. and where it is nothing, the rest is asked.
@@ -83,3 +83,8 @@ module _ (rows : ℕ → ℕ) (xs ys : ℕ) where
   -- One without partners is not paired.
   pub none-paired : (x : ℕ) → partners rows xs ys x ≡ 0 → paired (between rows xs ys) x ≡ false
   none-paired x e = none-found (between rows xs ys x) (λ y h. sym (partner-bit x y) ∙ ap (λ (m : ℕ). bit m y) e ∙ bit-none y)
+
+-- The members of xs that are none of ys, as one set.
+pub outside-set : (xs ys : ℕ) → ys < 2 ^ 64 → lowest (bit (bitAnd xs (2 ^ 64 - 1 - ys))) ≡ lowest (outside xs ys)
+outside-set xs ys h =
+    lowest-same _ (outside xs ys) (λ t l. bit-and xs (2 ^ 64 - 1 - ys) t ∙ ap (λ (x : Bool). bit xs t && x) (bit-not 64 ys t h l))

@@ -5,7 +5,7 @@ use lib.Dec.{ltb}
 use lib.Bits.{bitAnd}
 use Rattle.sets.specs.Mask.{bit, only}
 use Rattle.sets.specs.Search.{lowest, paired}
-use Rattle.rules.specs.Numbers.{Said, say}
+use Rattle.rules.specs.Numbers.{Said, sayXY}
 use Rattle.search.specs.declared.Found.{Found}
 use Rattle.search.specs.declared.Found.the-variants.{Pair, Nothing}
 
@@ -19,7 +19,7 @@ foundPair f = pairOf f (lowest (paired f))
 
 -- number n with the pair as x and y, else what the rest gives
 abbrev pub sayPair : ℕ → Found → Said → Said
-sayPair n (Pair x y) rest = say n x y
+sayPair n (Pair x y) rest = sayXY n x y
 sayPair n Nothing rest = rest
 
 -- the partners of x in its row: those of ys, where x is one of xs

@@ -2,11 +2,11 @@
 // One pair search over any table serves 27, 28, 33 and 34.
 ghost use mathlib.Core.Path.{_≡_};
 ghost use Prim.Native.Nat.{_<_};
-ghost use lib.ListN.{length};
+ghost use Rattle.rules.specs.Book.{tableCount};
 ghost use Rattle.sets.specs.Search.{lowest};
 ghost use Rattle.rules.specs.Requests.{isOpen};
 ghost use Rattle.rules.specs.Numbers.{between, outside};
-ghost use Rattle.book.specs.Slice.{tables};
+ghost use Rattle.book.specs.Slice.{tables, Full};
 ghost use Rattle.search.specs.Pairs.{partners, foundPair};
 
 // What a search over pairs gives.
@@ -17,7 +17,7 @@ pub enum Found {
 
 // The partners of x: those of ys in x's row, where x is one of xs.
 fn partners_of(book: &[u64], table: u64, xs: u64, ys: u64, x: u64) -> u64
-    requires { ⌜ (length (now book) ≡ 4676) × (table < 9) × (x < 64) ⌝ }
+    requires { ⌜ Full (now book) × (table < tableCount) × (x < 64) ⌝ }
     ensures { λ v. ⌜ v ≡ partners ((tables (now (book .entry))) .row table) xs ys x ⌝ }
 {
     if sets::has(xs, x) {
@@ -29,7 +29,7 @@ fn partners_of(book: &[u64], table: u64, xs: u64, ys: u64, x: u64) -> u64
 
 // x of xs the lowest that has a partner, then y its lowest partner: y of ys in x's row of the table.
 pub fn first_pair(book: &[u64], table: u64, xs: u64, ys: u64) -> Found
-    requires { ⌜ (length (now book) ≡ 4676) × (table < 9) ⌝ }
+    requires { ⌜ Full (now book) × (table < tableCount) ⌝ }
     ensures { λ v. ⌜ v ≡ foundPair (between ((tables (now (book .entry))) .row table) xs ys) ⌝ }
 {
     let mut found = Found::Nothing;
@@ -52,17 +52,12 @@ pub fn first_pair(book: &[u64], table: u64, xs: u64, ys: u64) -> Found
 pub fn lowest_outside(xs: u64, ys: u64) -> u64
     ensures { λ v. ⌜ v ≡ lowest (outside xs ys) ⌝ }
 {
-    for t in 0..64 {
-        if sets::has(xs, t) & !sets::has(ys, t) {
-            return t;
-        }
-    }
-    64
+    sets::lowest(xs & !ys)
 }
 
 // The lowest open order; 64 where there is none.
 pub fn lowest_open(book: &[u64]) -> u64
-    requires { ⌜ length (now book) ≡ 4676 ⌝ }
+    requires { ⌜ Full (now book) ⌝ }
     ensures { λ v. ⌜ v ≡ lowest (isOpen (tables (now (book .entry)))) ⌝ }
 {
     for p in 0..64 {

@@ -1,3 +1,4 @@
 pub mod Logic
 pub mod MaskLaws
 pub mod SearchLaws
+pub mod CountLaws

@@ -11,7 +11,7 @@ use lib.Arith.{lt-one}
 use lib.Dec.{eqb, eqb·zero-suc, eqb·suc-zero, eqb·suc-suc}
 use lib.Bits.{bitAnd, bitOr, and-shr, or-shr, and-mod, or-mod, and-mask, and-lt, and-le-l, or-lt}
 use lib.Pow.{pow-lt, pow-pos, shr-lt, shr-shr}
-use borrow.Author.Tests.{eqb-true, eqb-false, eq-eqb, ne-eqb}
+use borrow.Author.Tests.{eqb-true, eq-eqb}
 use Rattle.sets.specs.Mask.{bit, with, without, within, meet, only, joined}
 use Rattle.sets.proofs.Logic.{and-out, and-in, or-in-l, or-in-r, or-out, not-both, refute}
 
@@ -182,19 +182,6 @@ bit-without m a i h l = bit-and m (2 ^ 64 - 1 - 2 ^ a) i ∙ ap (λ (t : Bool). 
 pub without-old : (m a i : ℕ) → bit (without m a) i ≡ true → bit m i ≡ true
 unfolding without
 without-old m a i e = both-out m (2 ^ 64 - 1 - 2 ^ a) i e .0
-
--- What was added and taken back leaves the set as it was.
-pub without-with : (m a : ℕ) → m < 2 ^ 64 → a < 64 → bit m a ≡ false → without (with m a) a ≡ m
-unfolding with
-without-with m a hm ha e =
-    bit-ext 64 (without (with m a) a) m (without-lt (with m a) a (with-lt m a hm ha)) hm (λ i l.
-    bit-without (with m a) a i ha l ∙ ap (λ (t : Bool). t && not (eqb a i)) (bit-or m (2 ^ a) i ∙ ap (λ (t : Bool). bit m i || t) (bit-one a i)) ∙ go i (bit m i) refl (eqb a i) refl)
-  where
-    go : (i : ℕ) (s : Bool) → bit m i ≡ s → (t : Bool) → eqb a i ≡ t → ((s || t) && not t) ≡ bit m i
-    go i true p true q = absurd (not-both (bit m a) (ap (bit m) (eqb-true a i q) ∙ p) e)
-    go i true p false q = sym p
-    go i false p true q = sym p
-    go i false p false q = sym p
 
 -- A set within another.
 pub within-out : (m n j : ℕ) → within m n ≡ true → bit m j ≡ true → bit n j ≡ true

@@ -1,5 +1,5 @@
 -- What the searches of specs/Search.antt find, and the laws by which a loop shows that it makes them.
-use mathlib.Core.Path.{_≡_, refl, sym, ap, _∙_, subst}
+use mathlib.Core.Path.{_≡_, refl, sym, ap, ap₂, _∙_, subst}
 use mathlib.Core.Logic.{_⊎_, inl, inr}
 use mathlib.Core.Bool.{Bool, true, false, not, true≢false}
 use Prim.Native.Nat.{ℕ, zero, suc, _+_, _-_, _^_, _≤_, _<_}
@@ -9,7 +9,7 @@ use native.Mathlib.Omega.{arith}
 use lib.Dec.{ltb, eqb}
 use lib.Bits.{bitAnd, and-lt}
 use lib.Pow.{pow-pos}
-use borrow.Author.Tests.{ltb-true, lt-ltb, le-ltb, eq-eqb}
+use borrow.Author.Tests.{ltb-true, lt-ltb, eq-eqb}
 use Rattle.sets.specs.Mask.{bit, meet}
 use Rattle.sets.specs.Search.{lowestFrom, lowest, all, paired}
 use Rattle.sets.proofs.Logic.{not-both, refute}
@@ -54,6 +54,41 @@ lowest-some n i f k l m e = go (decLt (lowestFrom n i f) (i + n))
     go : Dec (lowestFrom n i f < i + n) → lowestFrom n i f < i + n
     go (yes d) = d
     go (no d) = absurd (not-both (f k) e (lowest-first n i f k l (omega arith)))
+
+-- A search does not go below its start.
+pub lowest-from : (n i : ℕ) (f : ℕ → Bool) → i ≤ lowestFrom n i f
+unfolding lowestFrom
+lowest-from zero i f = omega arith
+lowest-from (suc n) i f = go (f i) (lowest-from n (suc i) f)
+  where
+    go : (t : Bool) → suc i ≤ lowestFrom n (suc i) f → i ≤ elim t [ true ↦ i | false ↦ lowestFrom n (suc i) f ]
+    go true h = omega arith
+    go false h = omega arith
+
+-- What passes, and has nothing that passes before it, is what the search finds.
+pub lowest-is : (n i : ℕ) (f : ℕ → Bool) (k : ℕ) → i ≤ k → k < i + n → f k ≡ true → ((j : ℕ) → i ≤ j → j < k → f j ≡ false) → lowestFrom n i f ≡ k
+lowest-is n i f k l m e none = go (decLt (lowestFrom n i f) k) (decLt k (lowestFrom n i f))
+  where
+    found : lowestFrom n i f < i + n
+    found = lowest-some n i f k l m e
+
+    go : Dec (lowestFrom n i f < k) → Dec (k < lowestFrom n i f) → lowestFrom n i f ≡ k
+    go (yes h) r = absurd (not-both _ (lowest-passes n i f found) (none (lowestFrom n i f) (lowest-from n i f) h))
+    go (no h) (yes r) = absurd (not-both (f k) e (lowest-first n i f k l r))
+    go (no h) (no r) = omega arith
+
+-- Two tests that agree on 0..63 have the same lowest.
+pub lowest-same : (f g : ℕ → Bool) → ((k : ℕ) → k < 64 → f k ≡ g k) → lowest f ≡ lowest g
+unfolding lowestFrom
+lowest-same f g same = go 64 0 (omega arith)
+  where
+    go : (n i : ℕ) → i + n ≤ 64 → lowestFrom n i f ≡ lowestFrom n i g
+    go zero i h = refl
+    go (suc n) i h = turn (f i) (g i) (same i (omega arith)) (go n (suc i) (omega arith))
+      where
+        turn : (s t : Bool) → s ≡ t → lowestFrom n (suc i) f ≡ lowestFrom n (suc i) g
+            → _≡_ {A = ℕ} (elim s [ true ↦ i | false ↦ lowestFrom n (suc i) f ]) (elim t [ true ↦ i | false ↦ lowestFrom n (suc i) g ])
+        turn s t e r = ap₂ (λ (x : Bool) (y : ℕ). elim x as (λ (z : Bool). ℕ) [ true ↦ i | false ↦ y ]) e r
 
 -- A search over 0..63 that finds nothing: nothing passes.
 pub none-passes : (f : ℕ → Bool) → ltb (lowest f) 64 ≡ false → (k : ℕ) → k < 64 → f k ≡ false

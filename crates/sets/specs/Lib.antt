@@ -1,2 +1,3 @@
 pub mod Mask
 pub mod Search
+pub mod Count

@@ -1,7 +1,7 @@
 -- Searches over the numbers 0 to 63: the lowest that passes, whether all pass, the lowest pair.
 -- Every definition here computes. What they mean is shown in proofs/SearchLaws.antt.
 use mathlib.Core.Bool.{Bool, true, false}
-use Prim.Native.Nat.{ℕ, zero, suc, _-_}
+use Prim.Native.Nat.{ℕ, zero, suc}
 use lib.Dec.{ltb}
 
 -- the lowest of the n numbers from i on that passes f; i + n where none does

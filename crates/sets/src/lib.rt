@@ -1,8 +1,9 @@
 // Sets of the numbers 0 to 63 as u64 masks: tested by shift and and, joined by or.
 ghost use mathlib.Core.Path.{_≡_};
 ghost use Prim.Native.Nat.{_^_, _<_};
-ghost use lib.Bits.{bitAnd, bitOr};
 ghost use Rattle.sets.specs.Mask.{bit, with, without, within, meet};
+ghost use Rattle.sets.specs.Count.{count};
+ghost use Rattle.sets.specs.Search.{lowest};
 
 // The set of number i alone.
 pub fn alone(i: u64) -> u64
@@ -48,4 +49,23 @@ pub fn meets(set: u64, other: u64) -> bool
     ensures { λ r. ⌜ r ≡ meet set other ⌝ }
 {
     set & other != 0
+}
+
+// How many members the set has: the one bits of the mask.
+pub fn count(set: u64) -> u64
+    ensures { λ r. ⌜ r ≡ count set ⌝ }
+{
+    u64::count_ones(set) as u64
+}
+
+// The lowest member of the set; 64 where it has none.
+pub fn lowest(set: u64) -> u64
+    ensures { λ r. ⌜ r ≡ lowest (bit set) ⌝ }
+{
+    for i in 0..64 {
+        if has(set, i) {
+            return i;
+        }
+    }
+    64
 }

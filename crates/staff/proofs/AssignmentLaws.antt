@@ -38,7 +38,8 @@ module _ (d : Book) (n a b : ℕ) where
   assigned-again e z = not-first (d .row active b) z ∙ sym (ap by-table (eq-eqb n rolesOf e))
 
   -- The active word stored on the changed book.
-  pub active-stored : {first second : Book} → first ≡ added → second ≡ setTable first active (setRow (first .row active) b (a + 1)) → second ≡ setActive added a b
+  pub active-stored : {first second : Book} → first ≡ added → second ≡ setTable first active (setRow (first .row active) b (a + 1))
+      → second ≡ setActive added a b
   active-stored p q =
       q ∙ ap (λ (e : Book). setTable e active (setRow (e .row active) b (a + 1))) p
       ∙ ap (λ (v : ℕ). setTable added active (setRow (added .row active) b v)) (add-one a)

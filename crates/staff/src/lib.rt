@@ -1,40 +1,41 @@
 // Kinds 8, 9 and 10: a task for a role, a junior for a role, a role for a subject. Number a joins row b of a table.
 use answers::Answer;
 ghost use mathlib.Core.Path.{_≡_};
-ghost use Prim.Native.Nat.{_<_, _≤_};
-ghost use lib.ListN.{length};
+ghost use Prim.Native.Nat.{_<_};
+ghost use Rattle.rules.specs.Book.{tableCount};
 ghost use Rattle.rules.specs.Requests.{assign, assigned};
-ghost use Rattle.rules.specs.Numbers.{stateRefusal, conflicts, firstOf};
-ghost use Rattle.book.specs.Slice.{tables};
+ghost use Rattle.rules.specs.Numbers.{stateRefusal, assignConflicts, firstOf};
+ghost use Rattle.book.specs.Slice.{tables, Full, Became};
 ghost use Rattle.answers.specs.Answers.{said};
 ghost use Rattle.deeds.specs.Outcome.{decide, Settled};
 
 // 5 where it is assigned already.
 fn assign_refusal(book: &[u64], table: u64, a: u64, b: u64) -> Answer
-    requires { ⌜ (length (now book) ≡ 4676) × (table < 9) × (a < 64) × (b < 64) ⌝ }
+    requires { ⌜ Full (now book) × (table < tableCount) × (a < 64) × (b < 64) ⌝ }
     ensures { λ r. ⌜ said r ≡ stateRefusal (tables (now (book .entry))) (assign table) a b 0 ⌝ }
 {
-    if sets::has(book::row(book, table, b), a) {
+    if book::is_in_row(book, table, b, a) {
         return Answer::AlreadySet;
     }
     Answer::Accepted
 }
 
-// What conflicts, by the table: juniors, tasks of roles, roles of subjects.
+// What conflicts, by the table: tasks of roles, juniors, roles of subjects. A table that nothing is assigned in is refused.
 fn assign_conflict(book: &[u64], table: u64, a: u64, b: u64) -> Answer
-    requires { ⌜ (length (now book) ≡ 4676) × (4 ≤ table) × (table < 7) × (a < 64) × (b < 64) ⌝ }
-    ensures { λ r. ⌜ said r ≡ firstOf (conflicts (assign table)) (tables (now (book .entry))) a b 0 ⌝ }
+    requires { ⌜ Full (now book) × (a < 64) × (b < 64) ⌝ }
+    ensures { λ r. ⌜ said r ≡ firstOf (assignConflicts table) (tables (now (book .entry))) a b ⌝ }
 {
     match table {
-        4 => gains::junior_conflict(book, a, b),
-        5 => gains::owners_conflict(book, table, a, b),
-        _ => gains::own_conflict(book, a, b),
+        book::TASKS_OF => gains::owners_conflict(book, book::TASKS_OF, a, b),
+        book::JUNIORS => gains::junior_conflict(book, a, b),
+        book::ROLES_OF => gains::own_conflict(book, a, b),
+        _ => Answer::UnknownKind,
     }
 }
 
 // The answer, on the book as it stands.
 fn judge_assignment(book: &[u64], table: u64, a: u64, b: u64) -> Answer
-    requires { ⌜ (length (now book) ≡ 4676) × (4 ≤ table) × (table < 7) × (a < 64) × (b < 64) ⌝ }
+    requires { ⌜ Full (now book) × (table < tableCount) × (a < 64) × (b < 64) ⌝ }
     ensures { λ r. ⌜ said r ≡ decide (tables (now (book .entry))) (assign table) a b 0 ⌝ }
 {
     let refusal = assign_refusal(book, table, a, b);
@@ -46,8 +47,8 @@ fn judge_assignment(book: &[u64], table: u64, a: u64, b: u64) -> Answer
 
 // The assignment itself; a subject with no active role gets this one as its active role.
 fn store_assignment(book: &mut [u64], table: u64, a: u64, b: u64)
-    requires { ⌜ (length (now book) ≡ 4676) × (table < 9) × (a < 64) × (b < 64) ⌝ }
-    ensures { λ _. ⌜ (length (now (book .exit)) ≡ 4676) × (tables (now (book .exit)) ≡ assigned table (tables (now (book .entry))) a b) ⌝ }
+    requires { ⌜ Full (now book) × (table < tableCount) × (a < 64) × (b < 64) ⌝ }
+    ensures { λ _. ⌜ Became (now (book .entry)) (now (book .exit)) (λ d. assigned table d a b) ⌝ }
 {
     let active = book::row(book, book::ACTIVE, b);
     book::add_to_row(book, table, b, a);
@@ -60,7 +61,7 @@ fn store_assignment(book: &mut [u64], table: u64, a: u64, b: u64)
 
 // Kinds 8 to 10: number a joins row b of the table, where nothing stands in the way.
 pub fn assign(book: &mut [u64], table: u64, a: u64, b: u64) -> Answer
-    requires { ⌜ (length (now book) ≡ 4676) × (4 ≤ table) × (table < 7) × (a < 64) × (b < 64) ⌝ }
+    requires { ⌜ Full (now book) × (table < tableCount) × (a < 64) × (b < 64) ⌝ }
     ensures { λ r. ⌜ Settled (now (book .entry)) (now (book .exit)) (assign table) a b 0 r ⌝ }
 {
     let answer = judge_assignment(book, table, a, b);

@@ -8,6 +8,7 @@
 // The fields are parted by one space each; numbers are decimal and below 2^64.
 ghost use Prim.Native.Nat.{_≤_};
 ghost use lib.ListN.{length};
+ghost use Rattle.stream.specs.Field.{Field};
 
 // The longest book.
 pub const LONGEST: usize = 4700;
@@ -24,7 +25,7 @@ pub enum Command {
 // Where the field that starts at `from` ends: before the next space, or with the line.
 fn field_end(line: &[u8], from: usize) -> usize
     requires { ⌜ from ≤ length (now line) ⌝ }
-    ensures { λ r. ⌜ (from ≤ r) × (r ≤ length (now (line .entry))) ⌝ }
+    ensures { λ r. ⌜ Field (now (line .entry)) from r ⌝ }
 {
     let mut i = from;
     while i < line.len() {

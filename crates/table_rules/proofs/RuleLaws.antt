@@ -10,11 +10,11 @@ use Rattle.sets.specs.Mask.{bit}
 use Rattle.sets.specs.Search.{lowest}
 use Rattle.sets.proofs.SearchLaws.{all-in, all-fails, lowest-passes, none-passes}
 use Rattle.rules.specs.Numbers.{clash}
-use Rattle.rules.specs.Audit.{implies, pairFree}
-use Rattle.table_rules.specs.Rows.{twoSided}
+use Rattle.rules.specs.Audit.{implies, twoSided, pairFree}
 
 -- Rule 2 of a pair, as it is looked for: v is in u's row, and u is not in v's.
-pub two-sided-seen : (rows : ℕ → ℕ) (u v : ℕ) {there back t : Bool} → there ≡ bit (rows u) v → back ≡ bit (rows v) u → (there && not back) ≡ t → twoSided rows u v ≡ not t
+pub two-sided-seen : (rows : ℕ → ℕ) (u v : ℕ) {there back t : Bool} → there ≡ bit (rows u) v → back ≡ bit (rows v) u → (there && not back) ≡ t
+    → twoSided rows u v ≡ not t
 two-sided-seen rows u v {there} {back} e f g = sym (ap₂ implies e f) ∙ go there back g
   where
     go : (p q : Bool) {t : Bool} → (p && not q) ≡ t → implies p q ≡ not t
@@ -28,7 +28,9 @@ unfolding pairFree
 pair-free-seen rows m {x} e = go (decLt x 64)
   where
     go : Dec (x < 64) → leb 64 x ≡ pairFree rows m
-    go (yes h) = let q : lowest (clash rows m m) < 64 = omega arith in lt-leb 64 x h ∙ sym (all-fails _ 64 q (ap not (lowest-passes 64 0 (clash rows m m) q)))
+    go (yes h) =
+        let q : lowest (clash rows m m) < 64 = omega arith in
+        lt-leb 64 x h ∙ sym (all-fails _ 64 q (ap not (lowest-passes 64 0 (clash rows m m) q)))
     go (no h) =
         let q : 64 ≤ x = omega arith in
         le-leb 64 x q ∙ sym (all-in 64 _ (λ u l. ap not (none-passes (clash rows m m) (ap (λ (k : ℕ). ltb k 64) (sym e) ∙ le-ltb x 64 q) u l)))

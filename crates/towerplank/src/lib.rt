@@ -2,11 +2,8 @@
 // include/towerplank.h declares both. Neither entry asks anything of its caller's numbers.
 use answers::Reply;
 ghost use mathlib.Core.Path.{_≡_};
-ghost use lib.ListN.{length};
-ghost use Rattle.rules.specs.Audit.{audited};
-ghost use Rattle.book.specs.Slice.{words};
 ghost use Rattle.desk.specs.Guarantee.{ask};
-ghost use Rattle.towerplank.specs.Told.{listed, fourWords, Told};
+ghost use Rattle.towerplank.specs.Told.{listed, Told, ToldAudit};
 
 // A reply in the four words that a controller reads.
 fn put(answer: &mut [u64; 4], reply: Reply)
@@ -34,7 +31,7 @@ pub extern "C" fn towerplank_request(
 // The audit of a lent book, which it only reads.
 #[no_mangle]
 pub extern "C" fn towerplank_audit(book: &[u64], answer: &mut [u64; 4])
-    ensures { λ _. ⌜ now (answer .exit) ≡ fourWords (audited (length (now (book .entry))) (words (now (book .entry)))) ⌝ }
+    ensures { λ _. ⌜ ToldAudit (now (book .entry)) (now (answer .exit)) ⌝ }
 {
     let reply = answers::told_finding(audit::audit(book));
     put(answer, reply);

@@ -4,7 +4,8 @@ use mathlib.Core.List.{List, [], _∷_}
 use Prim.Native.Nat.{ℕ, zero, suc}
 use types.Run.{miss}
 use Rattle.sets.proofs.Logic.{refute}
-use Rattle.answers.specs.Answers.{said, isAccepted}
+use Rattle.rules.specs.Numbers.{isAccepted}
+use Rattle.answers.specs.Answers.{said}
 use Rattle.answers.proofs.AnswerLaws.{accepted-only}
 use borrow.Author.Needs.{needs}
 use Rattle.answers.proofs.is_accepted.Statement.{statement}

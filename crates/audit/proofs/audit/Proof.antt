@@ -1,4 +1,4 @@
--- The length, the bad words and the rules are asked in the definition's order.
+-- Each answer after those before it failed.
 use borrow.Author.Tests.{eq-eqb, ne-eqb, lt-ltb, le-ltb}
 use Rattle.rules.specs.Numbers.{given}
 use Rattle.rules.specs.Audit.{audit, audited}
@@ -22,11 +22,25 @@ lowest-broken-requires c κs = search needs
 
 returns-3 : tie.Need-returns-3
 unfolding audited audit given
-returns-3 c = rw (eq-eqb _ _ (c .before .before .before .before .if1 .left), ← c .before .before .before .first-bad .ensures, le-ltb _ _ (c .before .before .if2 .left), ← c .before .lowest-broken .ensures, lt-ltb _ _ (c .if3 .taken))
+returns-3 c =
+    rw (
+      eq-eqb _ _ (c .before .before .before .before .if1 .left),
+      ← c .before .before .before .first-bad .ensures,
+      le-ltb _ _ (c .before .before .if2 .left),
+      ← c .before .lowest-broken .ensures,
+      lt-ltb _ _ (c .if3 .taken),
+    )
 
 returns-4 : tie.Need-returns-4
 unfolding audited audit given
-returns-4 c = rw (eq-eqb _ _ (c .before .before .before .before .if1 .left), ← c .before .before .before .first-bad .ensures, le-ltb _ _ (c .before .before .if2 .left), ← c .before .lowest-broken .ensures, le-ltb _ _ (c .if3 .left))
+returns-4 c =
+    rw (
+      eq-eqb _ _ (c .before .before .before .before .if1 .left),
+      ← c .before .before .before .first-bad .ensures,
+      le-ltb _ _ (c .before .before .if2 .left),
+      ← c .before .lowest-broken .ensures,
+      le-ltb _ _ (c .if3 .left),
+    )
 
 pub audit-spec : {M : Type 1} → statement M
 audit-spec =

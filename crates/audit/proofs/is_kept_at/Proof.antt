@@ -1,6 +1,7 @@
--- Each arm is its rule of the list; what is left is the tenth.
-use Rattle.audit.specs.Kept.{tests, keptAt}
-use Rattle.audit.proofs.KeptLaws.{tenth}
+-- The arm taken says which rule it is; what no arm takes is no rule.
+use Rattle.rules.specs.Audit.{apart, keptAt, rules}
+use Rattle.book.specs.Slice.{tables}
+use Rattle.audit.proofs.NoRule.{no-rule}
 use borrow.Author.Needs.{needs}
 use Rattle.audit.proofs.is_kept_at.Statement.{statement}
 use Rattle.audit.proofs.is_kept_at.Tie as tie
@@ -51,48 +52,50 @@ is-kept-requires-2 : tie.Need-is-kept-requires-2
 is-kept-requires-2 c κs = search needs
 
 returns : tie.Need-returns
-unfolding keptAt tests
+unfolding keptAt rules
 returns c = rw (c .before .match .keys1) (c .is-kept-in-four .ensures)
 
 returns-2 : tie.Need-returns-2
-unfolding keptAt tests
+unfolding keptAt rules
 returns-2 c = rw (c .before .match .keys2) (c .is-kept-in-four2 .ensures)
 
 returns-3 : tie.Need-returns-3
-unfolding keptAt tests
+unfolding keptAt rules apart
 returns-3 c = rw (c .before .before .match .keys3, ← c .before .row .ensures) (c .is-apart .ensures)
 
 returns-4 : tie.Need-returns-4
-unfolding keptAt tests
+unfolding keptAt rules apart
 returns-4 c = rw (c .before .before .match .keys4, ← c .before .role-group .ensures) (c .is-apart2 .ensures)
 
 returns-5 : tie.Need-returns-5
-unfolding keptAt tests
+unfolding keptAt rules apart
 returns-5 c = rw (c .before .before .match .keys5, ← c .before .subject-group .ensures) (c .is-apart3 .ensures)
 
 returns-6 : tie.Need-returns-6
-unfolding keptAt tests
+unfolding keptAt rules
 returns-6 c = rw (c .before .match .keys6) (c .is-acyclic .ensures)
 
 returns-7 : tie.Need-returns-7
-unfolding keptAt tests
+unfolding keptAt rules
 returns-7 c = rw (c .before .match .keys7) (c .is-pair-free .ensures)
 
 returns-8 : tie.Need-returns-8
-unfolding keptAt tests
+unfolding keptAt rules
 returns-8 c = rw (c .before .match .keys8) (c .is-pair-free2 .ensures)
 
 returns-9 : tie.Need-returns-9
-unfolding keptAt tests
+unfolding keptAt rules
 returns-9 c = rw (c .before .match .keys9) (c .is-kept .ensures)
 
 returns-10 : tie.Need-returns-10
-unfolding keptAt tests
+unfolding keptAt rules
 returns-10 c =
-    let s = c .before .before .before .before .before in
-    let r = c .before .before .before .match .rest in
-    let e = tenth (s .pre .1) (s .pre .2) (r .0 .0 .0 .0 .0 .0 .0 .0 .1) (r .0 .0 .0 .0 .0 .0 .0 .1) (r .0 .0 .0 .0 .0 .0 .1) (r .0 .0 .0 .0 .0 .1) (r .0 .0 .0 .0 .1) (r .0 .0 .0 .1) (r .0 .0 .1) (r .0 .1) (r .1) in
-    rw (e, ← c .before .before .subject-group2 .ensures, ← c .before .role-group2 .ensures) (c .is-kept2 .ensures)
+    rw (c .before .before .before .match .keys10, ← c .before .before .subject-group2 .ensures, ← c .before .role-group2 .ensures) (c .is-kept2 .ensures)
+
+returns-11 : tie.Need-returns-11
+returns-11 c =
+    let s = c .before .before .args in
+    no-rule (tables (s .book .now)) (s .rule) (s .x) (c .match .rest)
 
 pub is-kept-at-spec : {M : Type 1} → statement M
 is-kept-at-spec =
@@ -122,4 +125,5 @@ is-kept-at-spec =
     returns-7
     returns-8
     returns-9
-    returns-10)
+    returns-10
+    returns-11)

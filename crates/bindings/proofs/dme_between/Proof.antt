@@ -1,12 +1,10 @@
--- The pair that the search gives is the answer.
-use mathlib.Core.Path.{_≡_, sym, ap₂, _∙_}
-use Prim.Native.Nat.{ℕ}
+-- The pair that the search gives, between the two groups.
+use mathlib.Core.Path.{refl}
 use Rattle.rules.specs.Book.{DME}
 use Rattle.rules.specs.Trade.{subjectGroup}
-use Rattle.rules.specs.Numbers.{accepted, between, dmeBetweenGroups, firstOf}
+use Rattle.rules.specs.Numbers.{dmeBetweenGroups}
 use Rattle.book.specs.Slice.{tables}
-use Rattle.search.specs.Pairs.{foundPair}
-use Rattle.search.proofs.PairLaws.{given-pair, given-nothing}
+use Rattle.bindings.proofs.BindingLaws.{between-told, between-none}
 use borrow.Author.Needs.{needs}
 use Rattle.bindings.proofs.dme_between.Statement.{statement}
 use Rattle.bindings.proofs.dme_between.Tie as tie
@@ -27,20 +25,22 @@ enum-told : tie.Need-enum-told
 enum-told c = search needs
 
 returns : tie.Need-returns
-unfolding firstOf dmeBetweenGroups
+unfolding dmeBetweenGroups
 returns c =
     let s = c .before .before .before .before .before .before .before .args in
     let d = tables (s .book .now) in
-    let pair = c .before .before .before .first-pair .ensures ∙ ap₂ (λ (xs ys : ℕ). foundPair (between (d .row DME) xs ys)) (c .before .before .before .before .before .subject-group .ensures) (c .before .before .before .before .subject-group2 .ensures) in
-    sym (given-pair (between (d .row DME) (subjectGroup d (s .a)) (subjectGroup d (s .b))) 28 accepted pair (c .before .found .given .1))
+    between-told d (s .a) (s .b) dmeBetweenGroups 28 DME (subjectGroup d) (λ rest. refl)
+    (c .before .before .before .before .before .subject-group .ensures) (c .before .before .before .before .subject-group2 .ensures)
+    (c .before .before .before .first-pair .ensures) (c .before .found .given .1)
 
 returns-2 : tie.Need-returns-2
-unfolding firstOf dmeBetweenGroups
+unfolding dmeBetweenGroups
 returns-2 c =
     let s = c .before .before .before .before .before .before .args in
     let d = tables (s .book .now) in
-    let pair = c .before .before .first-pair .ensures ∙ ap₂ (λ (xs ys : ℕ). foundPair (between (d .row DME) xs ys)) (c .before .before .before .before .subject-group .ensures) (c .before .before .before .subject-group2 .ensures) in
-    sym (given-nothing (between (d .row DME) (subjectGroup d (s .a)) (subjectGroup d (s .b))) 28 accepted pair (c .enum-told .given .1))
+    between-none d (s .a) (s .b) dmeBetweenGroups 28 DME (subjectGroup d) (λ rest. refl)
+    (c .before .before .before .before .subject-group .ensures) (c .before .before .before .subject-group2 .ensures)
+    (c .before .before .first-pair .ensures) (c .enum-told .given .1)
 
 pub dme-between-spec : {M : Type 1} → statement M
 dme-between-spec =

@@ -1,5 +1,6 @@
 -- The word read is the one that the tables have there.
-use mathlib.Core.Path.{sym}
+use mathlib.Core.Path.{sym, ap, _∙_}
+use Prim.Native.Nat.{ℕ, _+_}
 use native.Mathlib.Omega.{arith}
 use Rattle.book.specs.Slice.{words}
 use Rattle.rules.proofs.BookLaws.{read-row}
@@ -7,25 +8,24 @@ use borrow.Author.Needs.{needs}
 use Rattle.book.proofs.row.Statement.{statement}
 use Rattle.book.proofs.row.Tie as tie
 
-mul-result : tie.Need-mul-result
-mul-result c = search needs
+table-at-requires : tie.Need-table-at-requires
+table-at-requires c κs = search needs
 
 add-result : tie.Need-add-result
 add-result c = search needs
 
-add-result-2 : tie.Need-add-result-2
-add-result-2 c = search needs
-
-mul-result-2 : tie.Need-mul-result-2
-mul-result-2 c = search needs
+mul-result : tie.Need-mul-result
+mul-result c = search needs
 
 shared-slice-read-result : tie.Need-shared-slice-read-result
 shared-slice-read-result c = search needs
 
 returns : tie.Need-returns
-returns c = let s = c .before .args in sym (read-row (words (s .book .now)) (s .table) (s .r) (omega arith) (omega arith))
+returns c =
+    let s = c .before .before .before .args in
+    let w = words (s .book .now) in
+    ap (λ (i : ℕ). w (i + s .r)) (c .before .table-at .ensures) ∙ sym (read-row w (s .table) (s .r) (omega arith) (omega arith))
 
 pub row-spec : {M : Type 1} → statement M
 row-spec =
-    tie.close
-    (tie.spec mul-result add-result add-result-2 mul-result-2 shared-slice-read-result returns)
+    tie.close (tie.spec table-at-requires add-result mul-result shared-slice-read-result returns)

@@ -1,23 +1,22 @@
 -- One word is stored, and only that place of the tables changes.
-use mathlib.Core.Path.{_≡_}
+use mathlib.Core.Path.{ap, _∙_}
+use Prim.Native.Nat.{ℕ, _+_}
 use native.Mathlib.Omega.{arith}
-use lib.ListN.{length, length-set}
+use lib.ListN.{set, length-set}
+use Rattle.book.specs.Slice.{tables, Full}
 use Rattle.book.proofs.StoreLaws.{stored-row}
 use borrow.Author.Needs.{needs}
 use Rattle.book.proofs.set_row.Statement.{statement}
 use Rattle.book.proofs.set_row.Tie as tie
 
-mul-book : tie.Need-mul-book
-mul-book c = search needs
+table-at-requires : tie.Need-table-at-requires
+table-at-requires c κs = search needs
 
 add-book : tie.Need-add-book
 add-book c = search needs
 
-add-book-2 : tie.Need-add-book-2
-add-book-2 c = search needs
-
-mul-book-2 : tie.Need-mul-book-2
-mul-book-2 c = search needs
+mul-book : tie.Need-mul-book
+mul-book c = search needs
 
 slice-write-book : tie.Need-slice-write-book
 slice-write-book c = search needs
@@ -27,11 +26,14 @@ same-length c = search needs
 
 returns : tie.Need-returns
 returns c =
-    let s = c .args in
-    let full : length (s .book .now) ≡ 4676 = omega arith in
-    (simp length-set full, stored-row (s .book .now) full (s .v) (s .table) (s .r) (omega arith) (omega arith))
+    let s = c .before .before .args in
+    let l = s .book .now in
+    let full : Full l = omega arith in (
+      simp length-set full,
+      ap (λ (i : ℕ). tables (set l (i + s .r) (s .v))) (c .table-at .ensures)
+          ∙ stored-row l full (s .v) (s .table) (s .r) (omega arith) (omega arith),
+    )
 
 pub set-row-spec : {M : Type 1} → statement M
 set-row-spec =
-    tie.close
-    (tie.spec mul-book add-book add-book-2 mul-book-2 slice-write-book same-length returns)
+    tie.close (tie.spec table-at-requires add-book mul-book slice-write-book same-length returns)

@@ -2,23 +2,22 @@
 use mathlib.Core.Path.{_≡_, _∙_}
 use Prim.Native.Nat.{_≤_, _-_}
 use native.Mathlib.Omega.{arith}
-use lib.ListN.{length}
-use Rattle.book.specs.Slice.{tables}
-use Rattle.cells.specs.Cells.{writtenTo, newCell}
-use Rattle.cells.proofs.CellLaws.{written-none, written-all, no-new-cell, stamped-more, stamped-all}
+use Rattle.book.specs.Slice.{tables, Full}
+use Rattle.cells.specs.Cells.{filledTo, newCell}
+use Rattle.cells.proofs.CellLaws.{none-filled, all-filled, no-new-cell, stamped-more, stamped-all}
 use borrow.Author.Needs.{needs}
 use Rattle.cells.proofs.stamp.Statement.{statement}
 use Rattle.cells.proofs.stamp.Tie as tie
 
 abbrev Inv-loop : tie.InvT-loop
 Inv-loop book₀ order wide narrow e subject task₀ book task =
-    (task ≤ 64) × (length book ≡ 4676) × (tables book ≡ writtenTo task (tables book₀) order (newCell (tables book₀) order wide narrow e subject))
+    (task ≤ 64) × Full book × (tables book ≡ filledTo task (tables book₀) order (newCell (tables book₀) order wide narrow e subject))
 
 abbrev μ-loop : tie.MeasureT-loop
 μ-loop book₀ order wide narrow e subject task₀ book task = 64 - task
 
 loop-holds : tie.Need-loop-holds Inv-loop μ-loop
-loop-holds c = (omega arith, c .before .pre .0, written-none _ _ _)
+loop-holds c = (omega arith, c .before .pre .0, none-filled _ _ _)
 
 stamp-task-requires : tie.Need-stamp-task-requires Inv-loop μ-loop
 stamp-task-requires c κs = search needs
@@ -46,7 +45,7 @@ returns c =
     let at = c .before .loop in (
       at .inv .1,
       at .inv .2
-          ∙ written-all d (s .order) _ (at .task) (omega arith) (no-new-cell d (s .order) (s .wide) (s .narrow) (s .e) (s .subject) (omega arith))
+          ∙ all-filled d (s .order) _ (at .task) (omega arith) (no-new-cell d (s .order) (s .wide) (s .narrow) (s .e) (s .subject) (omega arith))
           ∙ stamped-all d (s .order) (s .wide) (s .narrow) (s .e) (s .subject),
     )
 

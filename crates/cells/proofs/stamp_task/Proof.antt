@@ -1,6 +1,7 @@
 -- The cell read, stamped and stored again.
 use mathlib.Core.Path.{ap, _∙_}
-use Rattle.book.specs.Slice.{tables, setCell}
+use Prim.Native.Nat.{ℕ}
+use Rattle.book.specs.Slice.{tables, withCell}
 use Rattle.cells.proofs.CellLaws.{cell-stamped}
 use borrow.Author.Needs.{needs}
 use Rattle.cells.proofs.stamp_task.Statement.{statement}
@@ -33,7 +34,8 @@ returns c =
     let narrow = c .before .before .before .before .before .has2 .ensures in
     let new = c .before .before .before .before .stamped-cell .ensures in
     let stored = c .before .before .set-cell .ensures in
-    (stored .0, stored .1 ∙ ap (setCell d (s .order) (s .task)) (cell-stamped d (s .order) (s .wide) (s .narrow) (s .e) (s .subject) (s .task) new wide narrow old))
+    let same = cell-stamped d (s .order) (s .wide) (s .narrow) (s .e) (s .subject) (s .task) new wide narrow old in
+    (stored .0, stored .1 ∙ ap (λ (v : ℕ). withCell (s .order) (s .task) v d) same)
 
 pub stamp-task-spec : {M : Type 1} → statement M
 stamp-task-spec =

@@ -1,47 +1,49 @@
 -- The three branches are those of the definition.
+use mathlib.Core.Path.{ap, _∙_}
 use native.Mathlib.Omega.{arith}
 use borrow.Author.Tests.{not-true, not-false}
-use Rattle.rules.specs.Requests.{written}
+use Rattle.rules.specs.Book.{cellOf}
+use Rattle.rules.specs.Requests.{stampedCell}
 use borrow.Author.Needs.{needs}
 use Rattle.cells.proofs.stamped_cell.Statement.{statement}
 use Rattle.cells.proofs.stamped_cell.Tie as tie
 
 returns : tie.Need-returns
-unfolding written
+unfolding stampedCell
 returns c = rw (not-true (c .before .args .in-role) (c .if1 .taken))
 
-mul-result : tie.Need-mul-result
-mul-result c = search needs
+add-cell-of : tie.Need-add-cell-of
+add-cell-of c = search needs
 
-add-result : tie.Need-add-result
-add-result c = search needs
+cell-of-requires : tie.Need-cell-of-requires
+cell-of-requires c κs = search needs
 
-add-result-2 : tie.Need-add-result-2
-add-result-2 c = search needs
+subject-in-requires : tie.Need-subject-in-requires
+subject-in-requires c κs = search needs
 
-mul-result-2 : tie.Need-mul-result-2
-mul-result-2 c = search needs
-
-add-result-3 : tie.Need-add-result-3
-add-result-3 c = search needs
+cell-of-requires-2 : tie.Need-cell-of-requires-2
+cell-of-requires-2 c κs = omega (arith, c .subject-in .ensures)
 
 returns-2 : tie.Need-returns-2
-unfolding written
-returns-2 c = rw (not-false (c .before .before .args .in-role) (c .before .if1 .left), c .if2 .taken) (omega arith)
+unfolding stampedCell
+returns-2 c =
+    rw (not-false (c .before .before .before .args .in-role) (c .before .before .if1 .left), c .before .if2 .taken)
+    (omega (arith, c .cell-of .ensures))
 
 returns-3 : tie.Need-returns-3
-unfolding written
-returns-3 c = rw (not-false (c .before .before .args .in-role) (c .before .if1 .left), c .if2 .left)
+unfolding stampedCell
+returns-3 c =
+    rw (not-false (c .before .before .before .before .args .in-role) (c .before .before .before .if1 .left), c .before .before .if2 .left)
+    (c .cell-of2 .ensures ∙ ap (cellOf (c .before .before .before .before .args .e)) (c .before .subject-in .ensures))
 
 pub stamped-cell-spec : {M : Type 1} → statement M
 stamped-cell-spec =
     tie.close
     (tie.spec
     returns
-    mul-result
-    add-result
-    add-result-2
-    mul-result-2
-    add-result-3
+    add-cell-of
+    cell-of-requires
+    subject-in-requires
+    cell-of-requires-2
     returns-2
     returns-3)

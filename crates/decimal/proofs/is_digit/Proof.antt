@@ -1,7 +1,6 @@
 -- The test is the one that the definition has.
 use mathlib.Core.Path.{refl}
 use Rattle.decimal.specs.Decimal.{isDigit}
-use borrow.Author.Needs.{needs}
 use Rattle.decimal.proofs.is_digit.Statement.{statement}
 use Rattle.decimal.proofs.is_digit.Tie as tie
 

@@ -1,77 +1,116 @@
--- The arm taken says which kind it is; its arguments are in range because none is at fault.
-use mathlib.Core.Path.{_≡_}
-use Prim.Native.Nat.{ℕ, _≤_, _<_}
+-- The arm taken says which kind it is; its arguments are in range because none is at fault. What no arm takes is no kind.
+use mathlib.Core.Path.{refl}
+use Prim.Native.Nat.{_≤_}
 use native.Mathlib.Omega.{arith}
+use Rattle.sets.specs.Search.{all}
 use Rattle.rules.specs.Requests.{table, rowOf}
+use Rattle.rules.proofs.Upto.{past}
 use Rattle.book.specs.Slice.{tables}
-use Rattle.ask.proofs.ArgumentLaws.{a-below, b-below, b-below-back, allocate-below}
-use Rattle.ask.specs.Arguments.{faultOf}
-use Rattle.desk.specs.Tables.{tableAt}
-use Rattle.desk.proofs.KindRanges.{past, from-define, from-relate, from-assign, from-activate, from-open, from-close, from-take-back}
+use Rattle.desk.proofs.KindRanges.{a-lt, b-lt, c-lt, from-define, from-relate, from-assign, from-activate, from-open, from-close}
+use Rattle.desk.proofs.KindRanges.{from-take-back, from-none-below, from-none-past}
 use borrow.Author.Needs.{needs}
 use Rattle.desk.proofs.carry_out.Statement.{statement}
 use Rattle.desk.proofs.carry_out.Tie as tie
 
 activate-requires : tie.Need-activate-requires
+unfolding all rowOf table
 activate-requires c κs =
-    let s = c .before .before .before in
-    let d = tables (s .args .book .now) in
-    let k = c .before .match .keys1 in
-    (search needs, a-below d (s .args .kind) (s .args .a) (s .args .b) (s .args .c) (s .pre .3) (omega arith) (omega arith), b-below d (s .args .kind) (s .args .a) (s .args .b) (s .args .c) (s .pre .3) (omega arith) (omega arith))
+    let s = c .before .before .before .args in
+    let d = tables (s .book .now) in
+    let is = c .before .match .keys1 in
+    let a = a-lt d (s .kind) (s .a) (s .b) (s .c) (c .before .before .before .pre .1) 11 1 (omega arith) (omega arith) refl in
+    let b = b-lt d (s .kind) (s .a) (s .b) (s .c) (c .before .before .before .pre .1) 11 1 (omega arith) (omega arith) refl in
+    (search needs, a, b)
 
 open-order-requires : tie.Need-open-order-requires
+unfolding all rowOf table
 open-order-requires c κs =
-    let s = c .before .before .before in
-    let d = tables (s .args .book .now) in
-    (search needs, a-below d (s .args .kind) (s .args .a) (s .args .b) (s .args .c) (s .pre .3) (omega arith) (omega arith))
+    let s = c .before .before .before .args in
+    let d = tables (s .book .now) in
+    let is = c .before .match .keys2 in
+    (search needs, a-lt d (s .kind) (s .a) (s .b) (s .c) (c .before .before .before .pre .1) 12 1 (omega arith) (omega arith) refl)
 
 allocate-requires : tie.Need-allocate-requires
+unfolding all rowOf table
 allocate-requires c κs =
-    let s = c .before .before .before in
-    let d = tables (s .args .book .now) in
-    let k = c .before .match .keys3 in
-    let below = allocate-below d (s .args .a) (s .args .b) (s .args .c) (rw k at (s .pre .3)) in
-    (search needs, a-below d (s .args .kind) (s .args .a) (s .args .b) (s .args .c) (s .pre .3) (omega arith) (omega arith), below .0, below .1)
+    let s = c .before .before .before .args in
+    let d = tables (s .book .now) in
+    let is = c .before .match .keys3 in
+    let a = a-lt d (s .kind) (s .a) (s .b) (s .c) (c .before .before .before .pre .1) 13 1 (omega arith) (omega arith) refl in
+    let b = b-lt d (s .kind) (s .a) (s .b) (s .c) (c .before .before .before .pre .1) 13 1 (omega arith) (omega arith) refl in
+    let third = c-lt d (s .kind) (s .a) (s .b) (s .c) (c .before .before .before .pre .1) 13 1 (omega arith) (omega arith) refl in
+    (search needs, a, b, third)
 
 close-order-requires : tie.Need-close-order-requires
+unfolding all rowOf table
 close-order-requires c κs =
-    let s = c .before .before .before in
-    let d = tables (s .args .book .now) in
-    (search needs, a-below d (s .args .kind) (s .args .a) (s .args .b) (s .args .c) (s .pre .3) (omega arith) (omega arith))
+    let s = c .before .before .before .args in
+    let d = tables (s .book .now) in
+    let is = c .before .match .keys4 in
+    (search needs, a-lt d (s .kind) (s .a) (s .b) (s .c) (c .before .before .before .pre .1) 14 1 (omega arith) (omega arith) refl)
 
 define-requires : tie.Need-define-requires
+unfolding all rowOf table
 define-requires c κs =
-    let s = c .before .before .before .before .before in
-    let d = tables (s .args .book .now) in
-    (search needs, omega arith, a-below d (s .args .kind) (s .args .a) (s .args .b) (s .args .c) (s .pre .3) (omega arith) (omega arith))
+    let s = c .before .before .before .before .before .args in
+    let d = tables (s .book .now) in (
+      search needs,
+      omega arith,
+      a-lt d (s .kind) (s .a) (s .b) (s .c) (c .before .before .before .before .before .pre .1) 1 3
+          (c .before .before .if1 .left) (c .before .if2 .taken) refl,
+    )
 
 relate-requires : tie.Need-relate-requires
+unfolding all rowOf table
 relate-requires c κs =
-    let s = c .before .before .before .before .before .before in
-    let d = tables (s .args .book .now) in
-    (search needs, omega arith, a-below d (s .args .kind) (s .args .a) (s .args .b) (s .args .c) (s .pre .3) (omega arith) (omega arith), b-below d (s .args .kind) (s .args .a) (s .args .b) (s .args .c) (s .pre .3) (c .before .before .if2 .left) (omega arith))
+    let s = c .before .before .before .before .before .before .args in
+    let d = tables (s .book .now) in
+    let a = a-lt d (s .kind) (s .a) (s .b) (s .c) (c .before .before .before .before .before .before .pre .1) 4 4
+    (c .before .before .if2 .left) (c .before .if3 .taken) refl in
+    let b = b-lt d (s .kind) (s .a) (s .b) (s .c) (c .before .before .before .before .before .before .pre .1) 4 4
+    (c .before .before .if2 .left) (c .before .if3 .taken) refl in
+    (search needs, omega arith, a, b)
 
-table-at-requires : tie.Need-table-at-requires
-table-at-requires c κs = search needs
+staff-table-requires : tie.Need-staff-table-requires
+staff-table-requires c κs = search needs
 
 assign-requires : tie.Need-assign-requires
+unfolding all rowOf table
 assign-requires c κs =
-    let s = c .before .before .before .before .before .before .before .before in
-    let d = tables (s .args .book .now) in
-    (search needs, c .table-at .ensures .1, c .table-at .ensures .2, a-below d (s .args .kind) (s .args .a) (s .args .b) (s .args .c) (s .pre .3) (omega arith) (omega arith), b-below d (s .args .kind) (s .args .a) (s .args .b) (s .args .c) (s .pre .3) (omega arith) (omega arith))
+    let s = c .before .before .before .before .before .before .before .before .args in
+    let d = tables (s .book .now) in
+    let a = a-lt d (s .kind) (s .a) (s .b) (s .c) (c .before .before .before .before .before .before .before .before .pre .1) 8 3
+    (c .before .before .before .if3 .left) (c .before .before .if4 .taken) refl in
+    let b = b-lt d (s .kind) (s .a) (s .b) (s .c) (c .before .before .before .before .before .before .before .before .pre .1) 8 3
+    (c .before .before .before .if3 .left) (c .before .before .if4 .taken) refl in
+    (search needs, c .staff-table .ensures .1, a, b)
 
-sub-table-at : tie.Need-sub-table-at
-sub-table-at c = past 11 4 (c .before .before .before .before .before .before .before .before .args .kind) (c .before .before .if4 .left) (c .before .before .before .before .before .before .match .rest)
+sub-staff-table : tie.Need-sub-staff-table
+sub-staff-table c =
+    let low : 15 ≤ c .before .before .before .before .before .before .before .before .args .kind = past 11 4
+    (c .before .before .before .before .before .before .before .before .args .kind) (c .before .before .if4 .left)
+    (c .before .before .before .before .before .before .match .rest) in
+    omega arith
 
-table-at-requires-2 : tie.Need-table-at-requires-2
-table-at-requires-2 c κs = search needs
+staff-table-requires-2 : tie.Need-staff-table-requires-2
+staff-table-requires-2 c κs =
+    let low : 15 ≤ c .before .before .before .before .before .before .before .before .args .kind = past 11 4
+    (c .before .before .before .before .before .before .before .before .args .kind) (c .before .before .if4 .left)
+    (c .before .before .before .before .before .before .match .rest) in
+    omega arith
 
 take-back-requires : tie.Need-take-back-requires
+unfolding all rowOf table
 take-back-requires c κs =
-    let s = c .before .before .before .before .before .before .before .before .before in
-    let d = tables (s .args .book .now) in
-    let low : 15 ≤ s .args .kind = past 11 4 (s .args .kind) (c .before .before .before .if4 .left) (c .before .before .before .before .before .before .before .match .rest) in
-    (search needs, omega (arith, c .table-at2 .ensures .2), a-below d (s .args .kind) (s .args .a) (s .args .b) (s .args .c) (s .pre .3) (omega arith) (omega arith), b-below-back d (s .args .kind) (s .args .a) (s .args .b) (s .args .c) (s .pre .3) low (omega arith))
+    let s = c .before .before .before .before .before .before .before .before .before .args in
+    let d = tables (s .book .now) in
+    let low : 15 ≤ s .kind = past 11 4 (s .kind) (c .before .before .before .if4 .left)
+    (c .before .before .before .before .before .before .before .match .rest) in
+    let a = a-lt d (s .kind) (s .a) (s .b) (s .c) (c .before .before .before .before .before .before .before .before .before .pre .1) 15 3
+    low (c .before .before .if5 .taken) refl in
+    let b = b-lt d (s .kind) (s .a) (s .b) (s .c) (c .before .before .before .before .before .before .before .before .before .pre .1) 15 3
+    low (c .before .before .if5 .taken) refl in
+    (search needs, c .staff-table2 .ensures .1, a, b)
 
 same-length : tie.Need-same-length
 same-length c = search needs
@@ -102,34 +141,43 @@ same-length-5 : tie.Need-same-length-5
 same-length-5 c = search needs
 
 returns-5 : tie.Need-returns-5
-returns-5 c = from-define _ (c .before .before .before .before .before .if1 .left) (c .before .before .before .before .if2 .taken) (c .before .before .define .ensures)
+returns-5 c =
+    from-define _ (c .before .before .before .before .before .if1 .left) (c .before .before .before .before .if2 .taken)
+    (c .before .before .define .ensures)
 
 same-length-6 : tie.Need-same-length-6
 same-length-6 c = search needs
 
 returns-6 : tie.Need-returns-6
-returns-6 c = from-relate _ (c .before .before .before .before .before .if2 .left) (c .before .before .before .before .if3 .taken) (c .before .before .relate .ensures)
+returns-6 c =
+    from-relate _ (c .before .before .before .before .before .if2 .left) (c .before .before .before .before .if3 .taken)
+    (c .before .before .relate .ensures)
 
 same-length-7 : tie.Need-same-length-7
 same-length-7 c = search needs
 
 returns-7 : tie.Need-returns-7
-returns-7 c = from-assign _ (c .before .before .before .before .before .before .if3 .left) (c .before .before .before .before .before .if4 .taken) (rw (c .before .before .before .table-at .ensures .0) at (c .before .before .assign .ensures))
+returns-7 c =
+    from-assign _ (c .before .before .before .before .before .before .if3 .left) (c .before .before .before .before .before .if4 .taken)
+    (rw (c .before .before .before .staff-table .ensures .0) at (c .before .before .assign .ensures))
 
 same-length-8 : tie.Need-same-length-8
 same-length-8 c = search needs
 
 returns-8 : tie.Need-returns-8
 returns-8 c =
-    let s = c .before .before .before .before .before .before .before .before .before .before .before .before in
-    let low : 15 ≤ s .args .kind = past 11 4 (s .args .kind) (c .before .before .before .before .before .before .if4 .left) (c .before .before .before .before .before .before .before .before .before .before .match .rest) in
-    from-take-back _ low (c .before .before .before .before .before .if5 .taken) (rw (c .before .before .before .table-at2 .ensures .0) at (c .before .before .take-back .ensures))
+    let low : 15 ≤ c .before .before .before .before .before .before .before .before .before .before .before .before .args .kind = past 11 4
+    (c .before .before .before .before .before .before .before .before .before .before .before .before .args .kind)
+    (c .before .before .before .before .before .before .if4 .left)
+    (c .before .before .before .before .before .before .before .before .before .before .match .rest) in
+    from-take-back _ low (c .before .before .before .before .before .if5 .taken)
+    (rw (c .before .before .before .staff-table2 .ensures .0) at (c .before .before .take-back .ensures))
 
 returns-9 : tie.Need-returns-9
-returns-9 c = absurd (omega arith)
+returns-9 c = from-none-below _ _ _ (c .before .before .before .pre .0) _ (c .if1 .taken)
 
 returns-10 : tie.Need-returns-10
-returns-10 c = absurd (omega arith)
+returns-10 c = from-none-past _ _ _ (c .before .before .before .before .before .before .before .pre .0) _ (c .if5 .left)
 
 pub carry-out-spec : {M : Type 1} → statement M
 carry-out-spec =
@@ -141,10 +189,10 @@ carry-out-spec =
     close-order-requires
     define-requires
     relate-requires
-    table-at-requires
+    staff-table-requires
     assign-requires
-    sub-table-at
-    table-at-requires-2
+    sub-staff-table
+    staff-table-requires-2
     take-back-requires
     same-length
     returns

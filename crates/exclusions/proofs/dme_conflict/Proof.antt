@@ -1,59 +1,43 @@
--- Each return gives its number where its test holds, after those before it failed.
-use mathlib.Core.Path.{_≡_, refl, sym, ap, _∙_}
-use Prim.Native.Nat.{ℕ}
-use borrow.Author.Tests.{eq-eqb, ne-eqb}
-use Rattle.sets.specs.Mask.{bit}
-use Rattle.rules.specs.Numbers.{selfConstraint, alreadySme, oneSubjectGroup, pairConflicts, conflicts, firstOf}
-use Rattle.deeds.proofs.CascadeLaws.{given-yes, given-no}
+-- Each answer from what has been read by then.
+use mathlib.Core.Path.{sym, _∙_}
+use borrow.Author.Tests.{not-true, not-false}
+use Rattle.book.specs.Slice.{tables}
+use Rattle.exclusions.proofs.ExclusionLaws.{dme-self, dme-sme, dme-subject-group, dme-none}
 use borrow.Author.Needs.{needs}
 use Rattle.exclusions.proofs.dme_conflict.Statement.{statement}
 use Rattle.exclusions.proofs.dme_conflict.Tie as tie
 
 returns : tie.Need-returns
-unfolding conflicts pairConflicts firstOf selfConstraint alreadySme oneSubjectGroup
-returns c = given-yes _ _ _ (eq-eqb _ _ (c .if1 .taken))
+returns c =
+    let s = c .before .before .args in
+    dme-self (tables (s .book .now)) (s .a) (s .b) (c .if1 .taken)
 
-row-requires : tie.Need-row-requires
-row-requires c κs = search needs
-
-has-requires : tie.Need-has-requires
-has-requires c κs = search needs
+is-in-row-requires : tie.Need-is-in-row-requires
+is-in-row-requires c κs = search needs
 
 returns-2 : tie.Need-returns-2
-unfolding conflicts pairConflicts firstOf selfConstraint alreadySme oneSubjectGroup
 returns-2 c =
-    let sme = ap (λ (m : ℕ). bit m (c .before .before .before .before .before .args .b)) (sym (c .before .before .row .ensures)) ∙ sym (c .before .has .ensures) in
-    given-no _ _ _ (ne-eqb _ _ (c .before .before .before .if1 .left)) (given-yes _ _ _ (sme ∙ c .if2 .taken))
+    let s = c .before .before .before .before .args in
+    dme-sme (tables (s .book .now)) (s .a) (s .b) (c .before .before .if1 .left) (sym (c .before .is-in-row .ensures) ∙ c .if2 .taken)
 
-subject-group-requires : tie.Need-subject-group-requires
-subject-group-requires c κs = search needs
-
-has-requires-2 : tie.Need-has-requires-2
-has-requires-2 c κs = search needs
+in-subject-group-requires : tie.Need-in-subject-group-requires
+in-subject-group-requires c κs = search needs
 
 returns-3 : tie.Need-returns-3
-unfolding conflicts pairConflicts firstOf selfConstraint alreadySme oneSubjectGroup
 returns-3 c =
-    let sme = ap (λ (m : ℕ). bit m (c .before .before .before .before .before .before .before .before .args .b)) (sym (c .before .before .before .before .before .row .ensures)) ∙ sym (c .before .before .before .before .has .ensures) in
-    let group = ap (λ (m : ℕ). bit m (c .before .before .before .before .before .before .before .before .args .b)) (sym (c .before .before .subject-group .ensures)) ∙ sym (c .before .has2 .ensures) in
-    given-no _ _ _ (ne-eqb _ _ (c .before .before .before .before .before .before .if1 .left)) (given-no _ _ _ (sme ∙ c .before .before .before .if2 .left) (given-yes _ _ _ (group ∙ c .if3 .taken)))
+    let s = c .before .before .before .before .before .before .args in
+    dme-none (tables (s .book .now)) (s .a) (s .b) (c .before .before .before .before .if1 .left)
+    (sym (c .before .before .before .is-in-row .ensures) ∙ c .before .before .if2 .left)
+    (sym (c .before .in-subject-group .ensures) ∙ not-true _ (c .if3 .taken))
 
 returns-4 : tie.Need-returns-4
-unfolding conflicts pairConflicts firstOf selfConstraint alreadySme oneSubjectGroup
 returns-4 c =
-    let sme = ap (λ (m : ℕ). bit m (c .before .before .before .before .before .before .before .before .args .b)) (sym (c .before .before .before .before .before .row .ensures)) ∙ sym (c .before .before .before .before .has .ensures) in
-    let group = ap (λ (m : ℕ). bit m (c .before .before .before .before .before .before .before .before .args .b)) (sym (c .before .before .subject-group .ensures)) ∙ sym (c .before .has2 .ensures) in
-    given-no _ _ _ (ne-eqb _ _ (c .before .before .before .before .before .before .if1 .left)) (given-no _ _ _ (sme ∙ c .before .before .before .if2 .left) (given-no _ _ _ (group ∙ c .if3 .left) refl))
+    let s = c .before .before .before .before .before .before .args in
+    dme-subject-group (tables (s .book .now)) (s .a) (s .b) (c .before .before .before .before .if1 .left)
+    (sym (c .before .before .before .is-in-row .ensures) ∙ c .before .before .if2 .left)
+    (sym (c .before .in-subject-group .ensures) ∙ not-false _ (c .if3 .left))
 
 pub dme-conflict-spec : {M : Type 1} → statement M
 dme-conflict-spec =
     tie.close
-    (tie.spec
-    returns
-    row-requires
-    has-requires
-    returns-2
-    subject-group-requires
-    has-requires-2
-    returns-3
-    returns-4)
+    (tie.spec returns is-in-row-requires returns-2 in-subject-group-requires returns-3 returns-4)

@@ -1,8 +1,6 @@
 -- The lowest role that owns both, else the lowest subject.
-use native.Mathlib.Omega.{arith}
-use mathlib.Core.Path.{refl}
-use Rattle.rules.specs.Numbers.{roleOwnsBoth, subjectOwnsBoth, firstOf}
-use Rattle.deeds.proofs.CascadeLaws.{lowest-yes, lowest-no}
+use Rattle.book.specs.Slice.{tables}
+use Rattle.exclusions.proofs.ExclusionLaws.{role-owns-both, subject-owns-both, none-owns-both}
 use borrow.Author.Needs.{needs}
 use Rattle.exclusions.proofs.owned_together.Statement.{statement}
 use Rattle.exclusions.proofs.owned_together.Tie as tie
@@ -11,19 +9,24 @@ lowest-owner-of-both-requires : tie.Need-lowest-owner-of-both-requires
 lowest-owner-of-both-requires c κs = search needs
 
 returns : tie.Need-returns
-unfolding firstOf roleOwnsBoth subjectOwnsBoth
-returns c = lowest-yes _ _ _ (c .before .lowest-owner-of-both .ensures) (c .if1 .taken)
+returns c =
+    let s = c .before .before .before .args in
+    role-owns-both (tables (s .book .now)) (s .a) (s .b) (c .before .lowest-owner-of-both .ensures) (c .if1 .taken)
 
 lowest-owner-of-both-requires-2 : tie.Need-lowest-owner-of-both-requires-2
 lowest-owner-of-both-requires-2 c κs = search needs
 
 returns-2 : tie.Need-returns-2
-unfolding firstOf roleOwnsBoth subjectOwnsBoth
-returns-2 c = lowest-no _ _ _ (c .before .before .before .lowest-owner-of-both .ensures) (c .before .before .if1 .left) (lowest-yes _ _ _ (c .before .lowest-owner-of-both2 .ensures) (c .if2 .taken))
+returns-2 c =
+    let s = c .before .before .before .before .before .args in
+    subject-owns-both (tables (s .book .now)) (s .a) (s .b) (c .before .before .before .lowest-owner-of-both .ensures) (c .before .before .if1 .left)
+    (c .before .lowest-owner-of-both2 .ensures) (c .if2 .taken)
 
 returns-3 : tie.Need-returns-3
-unfolding firstOf roleOwnsBoth subjectOwnsBoth
-returns-3 c = lowest-no _ _ _ (c .before .before .before .lowest-owner-of-both .ensures) (c .before .before .if1 .left) (lowest-no _ _ _ (c .before .lowest-owner-of-both2 .ensures) (c .if2 .left) refl)
+returns-3 c =
+    let s = c .before .before .before .before .before .args in
+    none-owns-both (tables (s .book .now)) (s .a) (s .b) (c .before .before .before .lowest-owner-of-both .ensures) (c .before .before .if1 .left)
+    (c .before .lowest-owner-of-both2 .ensures) (c .if2 .left)
 
 pub owned-together-spec : {M : Type 1} → statement M
 owned-together-spec =

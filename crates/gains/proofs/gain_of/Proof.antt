@@ -1,8 +1,5 @@
 -- By whether the table is that of the tasks of roles.
-use mathlib.Core.Path.{_≡_, sym, ap, _∙_}
-use mathlib.Core.Bool.{Bool, true, false}
-use Prim.Native.Nat.{ℕ, _^_}
-use borrow.Author.Tests.{eq-eqb, ne-eqb}
+use mathlib.Core.Path.{sym, ap, _∙_}
 use Rattle.rules.specs.Trade.{ownedTasks, role}
 use Rattle.book.specs.Slice.{tables}
 use Rattle.gains.proofs.GainLaws.{gained-task, gained-role}

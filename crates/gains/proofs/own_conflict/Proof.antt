@@ -1,14 +1,7 @@
--- Only subject b is asked, so its lowest clash is the pair.
-use mathlib.Core.Path.{_≡_, refl, sym, ap, ap₂, _∙_}
-use Prim.Native.Nat.{ℕ}
+-- Subject b alone is asked, for its lowest clash with the gain.
 use native.Mathlib.Omega.{arith}
-use Rattle.sets.specs.Search.{lowest}
-use Rattle.rules.specs.Book.{SME}
-use Rattle.rules.specs.Trade.{ownedTasks, subject}
-use Rattle.rules.specs.Numbers.{accepted, clash, ownRoleAssignment, assignConflicts, conflicts, firstOf}
 use Rattle.book.specs.Slice.{tables}
-use Rattle.search.proofs.PairLaws.{given-pair, given-nothing}
-use Rattle.owners.proofs.ClashLaws.{own-clash, no-own-clash}
+use Rattle.gains.proofs.GainAnswers.{own-told, own-none}
 use borrow.Author.Needs.{needs}
 use Rattle.gains.proofs.own_conflict.Statement.{statement}
 use Rattle.gains.proofs.own_conflict.Tie as tie
@@ -26,22 +19,17 @@ clash-of-requires : tie.Need-clash-of-requires
 clash-of-requires c κs = search needs
 
 returns : tie.Need-returns
-unfolding conflicts assignConflicts firstOf ownRoleAssignment
 returns c =
     let s = c .before .before .before .before .before .before .args in
-    let d = tables (s .book .now) in
-    let owned = c .before .before .before .owned-tasks .ensures ∙ ap (ownedTasks d) (c .before .before .before .before .row .ensures) in
-    let lowest-clash = c .before .clash-of .ensures ∙ ap₂ (λ (gain mine : ℕ). lowest (clash (d .row SME) gain mine)) (c .before .before .gain-of .ensures) owned in
-    sym (given-pair _ 32 accepted (own-clash d (subject d) (s .b) _ _ lowest-clash (omega arith) (c .if1 .taken)) refl)
+    own-told (tables (s .book .now)) (s .a) (s .b) (c .before .before .before .before .row .ensures)
+    (c .before .before .before .owned-tasks .ensures) (c .before .before .gain-of .ensures) (c .before .clash-of .ensures) (omega arith)
+    (c .if1 .taken)
 
 returns-2 : tie.Need-returns-2
-unfolding conflicts assignConflicts firstOf ownRoleAssignment
 returns-2 c =
     let s = c .before .before .before .before .before .before .args in
-    let d = tables (s .book .now) in
-    let owned = c .before .before .before .owned-tasks .ensures ∙ ap (ownedTasks d) (c .before .before .before .before .row .ensures) in
-    let lowest-clash = c .before .clash-of .ensures ∙ ap₂ (λ (gain mine : ℕ). lowest (clash (d .row SME) gain mine)) (c .before .before .gain-of .ensures) owned in
-    sym (given-nothing _ 32 accepted (no-own-clash d (subject d) (s .b) _ _ lowest-clash (c .if1 .left)) refl)
+    own-none (tables (s .book .now)) (s .a) (s .b) (c .before .before .before .before .row .ensures)
+    (c .before .before .before .owned-tasks .ensures) (c .before .before .gain-of .ensures) (c .before .clash-of .ensures) (c .if1 .left)
 
 pub own-conflict-spec : {M : Type 1} → statement M
 own-conflict-spec =

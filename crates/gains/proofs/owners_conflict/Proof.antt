@@ -1,12 +1,10 @@
--- The pair that the search over owners gives is the answer; where there is none the subjects are asked.
-use mathlib.Core.Path.{_≡_, sym, ap, _∙_}
-use Prim.Native.Nat.{ℕ}
-use Rattle.rules.specs.Numbers.{taskAssignment, firstOf}
+-- 31 where a role has a clash, else what the subjects are asked.
+use mathlib.Core.Path.{refl}
+use mathlib.Core.List.{[], _∷_}
+use Rattle.rules.specs.Numbers.{taskAssignment, roleAssignment}
 use Rattle.book.specs.Slice.{tables}
-use Rattle.search.specs.Pairs.{foundPair}
-use Rattle.search.proofs.PairLaws.{given-pair, given-nothing}
-use Rattle.owners.specs.Owners.{clashesBelow}
 use Rattle.owners.specs.declared.Owner.the-variants.{Role}
+use Rattle.gains.proofs.GainAnswers.{clash-told, clash-passed}
 use borrow.Author.Needs.{needs}
 use Rattle.gains.proofs.owners_conflict.Statement.{statement}
 use Rattle.gains.proofs.owners_conflict.Tie as tie
@@ -27,20 +25,20 @@ subjects-conflict-requires : tie.Need-subjects-conflict-requires
 subjects-conflict-requires c κs = search needs
 
 returns : tie.Need-returns
-unfolding firstOf taskAssignment
+unfolding taskAssignment
 returns c =
     let s = c .before .before .before .before .before .before .args in
-    let d = tables (s .book .now) in
-    let pair = c .before .before .before .first-clash .ensures ∙ ap (λ (gain : ℕ). foundPair (clashesBelow d Role (s .b) gain)) (c .before .before .before .before .gain-of .ensures) in
-    sym (given-pair _ 31 _ pair (c .before .found .given .1))
+    clash-told (tables (s .book .now)) (s .a) (s .b) (taskAssignment (s .table)) (roleAssignment (s .table) ∷ []) 31 (s .table) Role
+    (λ rest. refl) (c .before .before .before .before .gain-of .ensures) (c .before .before .before .first-clash .ensures)
+    (c .before .found .given .1)
 
 returns-2 : tie.Need-returns-2
-unfolding firstOf taskAssignment
+unfolding taskAssignment
 returns-2 c =
     let s = c .before .before .before .before .before .before .args in
-    let d = tables (s .book .now) in
-    let pair = c .before .before .before .first-clash .ensures ∙ ap (λ (gain : ℕ). foundPair (clashesBelow d Role (s .b) gain)) (c .before .before .before .before .gain-of .ensures) in
-    c .subjects-conflict .ensures ∙ sym (given-nothing _ 31 _ pair (c .before .enum-told .given .1))
+    clash-passed (tables (s .book .now)) (s .a) (s .b) (taskAssignment (s .table)) (roleAssignment (s .table) ∷ []) 31 (s .table) Role
+    (λ rest. refl) (c .before .before .before .before .gain-of .ensures) (c .before .before .before .first-clash .ensures)
+    (c .before .enum-told .given .1) (c .subjects-conflict .ensures)
 
 pub owners-conflict-spec : {M : Type 1} → statement M
 owners-conflict-spec =

@@ -1,10 +1,11 @@
--- Before turn v no rival below v has the hand.
-use mathlib.Core.Path.{_≡_, refl, sym}
+-- A test of all numbers: those below v pass. Nobody's hand is asked for nothing.
+use mathlib.Core.Path.{_≡_, refl, sym, ap, _∙_}
 use mathlib.Core.Bool.{true}
 use Prim.Native.Nat.{_-_, _≤_}
 use native.Mathlib.Omega.{arith}
 use Rattle.sets.specs.Search.{all}
 use Rattle.sets.proofs.SearchLaws.{all-on, all-fails, all-done}
+use Rattle.rules.specs.Book.{subjectIn}
 use Rattle.book.specs.Slice.{tables}
 use Rattle.hand_rules.specs.Hands.{otherHand}
 use Rattle.hand_rules.proofs.HandLaws.{nobody-alone, other-seen}
@@ -33,12 +34,17 @@ has-requires c κs = search needs
 cell-requires : tie.Need-cell-requires Inv-loop μ-loop
 cell-requires c κs = search needs
 
+subject-in-requires : tie.Need-subject-in-requires Inv-loop μ-loop
+subject-in-requires c κs = search needs
+
 returns-2 : tie.Need-returns-2 Inv-loop μ-loop
 returns-2 c =
-    let s = c .before .before .before .before .before .before .before .args in
-    let l = c .before .before .before .before .loop in
+    let s = c .before .before .before .before .before .before .before .before .args in
+    let l = c .before .before .before .before .before .loop in
     let d = tables (s .book .now) in
-    let seen = other-seen d (s .order) (s .rivals) (s .hand) (l .v) (c .before .before .before .before .before .if1 .left) (c .before .before .has .ensures) (c .before .cell .ensures) (c .if2 .taken) in
+    let its = c .before .subject-in .ensures ∙ ap subjectIn (c .before .before .cell .ensures) in
+    let seen = other-seen d (s .order) (s .rivals) (s .hand) (l .v) (c .before .before .before .before .before .before .if1 .left)
+    (c .before .before .before .has .ensures) its (c .if2 .taken) in
     sym (all-fails (otherHand d (s .order) (s .rivals) (s .hand)) {i = l .v} 64 (omega arith) seen)
 
 add-v : tie.Need-add-v Inv-loop μ-loop
@@ -49,10 +55,12 @@ loop-less c = search needs
 
 loop-again : tie.Need-loop-again Inv-loop μ-loop
 loop-again c =
-    let s = c .before .before .before .before .before .before .before .args in
-    let l = c .before .before .before .before .loop in
+    let s = c .before .before .before .before .before .before .before .before .args in
+    let l = c .before .before .before .before .before .loop in
     let d = tables (s .book .now) in
-    let seen = other-seen d (s .order) (s .rivals) (s .hand) (l .v) (c .before .before .before .before .before .if1 .left) (c .before .before .has .ensures) (c .before .cell .ensures) (c .if2 .left) in
+    let its = c .before .subject-in .ensures ∙ ap subjectIn (c .before .before .cell .ensures) in
+    let seen = other-seen d (s .order) (s .rivals) (s .hand) (l .v) (c .before .before .before .before .before .before .if1 .left)
+    (c .before .before .before .has .ensures) its (c .if2 .left) in
     (omega arith, all-on (otherHand d (s .order) (s .rivals) (s .hand)) (l .inv .1) seen)
 
 returns-3 : tie.Need-returns-3 Inv-loop μ-loop
@@ -70,6 +78,7 @@ is-alone-spec =
     loop-holds
     has-requires
     cell-requires
+    subject-in-requires
     returns-2
     add-v
     loop-less

@@ -38,7 +38,9 @@ returns-2 c =
     let s = c .before .before .before .before .before .before .before .before .before .before .args in
     let held = c .before .before .before .before .before .before .before .before .held-by .ensures in
     let hand = c .before .before .before .before .before .before .before .subject-hand .ensures in
-    holds-dme (tables (s .book .now)) (s .a) (s .b) (s .c) held hand (c .before .before .before .before .before .before .first-pair .ensures) (c .before .before .before .before .enum-told .given .1) (c .before .before .before .first-pair2 .ensures) (c .before .x2 .given .1)
+    holds-dme (tables (s .book .now)) (s .a) (s .b) (s .c) held hand
+    (c .before .before .before .before .before .before .first-pair .ensures) (c .before .before .before .before .enum-told .given .1)
+    (c .before .before .before .first-pair2 .ensures) (c .before .x2 .given .1)
 
 enum-told-2 : tie.Need-enum-told-2
 enum-told-2 c = search needs
@@ -48,7 +50,8 @@ returns-3 c =
     let s = c .before .before .before .before .before .before .before .before .before .args in
     let held = c .before .before .before .before .before .before .before .held-by .ensures in
     let hand = c .before .before .before .before .before .before .subject-hand .ensures in
-    holds-none (tables (s .book .now)) (s .a) (s .b) (s .c) held hand (c .before .before .before .before .before .first-pair .ensures) (c .before .before .before .enum-told .given .1) (c .before .before .first-pair2 .ensures) (c .enum-told2 .given .1)
+    holds-none (tables (s .book .now)) (s .a) (s .b) (s .c) held hand (c .before .before .before .before .before .first-pair .ensures)
+    (c .before .before .before .enum-told .given .1) (c .before .before .first-pair2 .ensures) (c .enum-told2 .given .1)
 
 pub allocate-conflict-spec : {M : Type 1} → statement M
 allocate-conflict-spec =

@@ -29,7 +29,8 @@ returns c =
     let s = c .before .before .before .before .before .args in
     let d = tables (s .book .now) in
     let hand = c .before .before .before .role-hand .ensures in
-    let owned : c .before .owned-tasks .result ≡ ownedTasks d (role (s .e - 1)) = c .before .owned-tasks .ensures ∙ ap (ownedTasks d) (c .before .before .alone .ensures) in
+    let owned : c .before .owned-tasks .result ≡ ownedTasks d (role (s .e - 1)) =
+    c .before .owned-tasks .ensures ∙ ap (ownedTasks d) (c .before .before .alone .ensures) in
     c .lowest-outside .ensures ∙ (λ i. lowest (outside (hand i) (owned i)))
 
 pub lowest-unowned-spec : {M : Type 1} → statement M

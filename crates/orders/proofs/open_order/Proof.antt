@@ -2,11 +2,10 @@
 use mathlib.Core.Path.{_≡_, refl, sym, ap, _∙_}
 use mathlib.Core.Bool.{true, false, not}
 use native.Mathlib.Omega.{arith}
-use lib.ListN.{length}
 use borrow.Author.Tests.{eq-eqb, ne-eqb}
 use Rattle.rules.specs.Requests.{openOrder, isOpen, change}
 use Rattle.rules.specs.Numbers.{accepted, say, stateRefusal, conflicts, firstOf}
-use Rattle.book.specs.Slice.{tables}
+use Rattle.book.specs.Slice.{tables, Full}
 use Rattle.deeds.proofs.OutcomeLaws.{decide-refused, decide-conflict, settled-kept, settled-changed}
 use Rattle.deeds.proofs.CascadeLaws.{given-yes, given-no}
 use borrow.Author.Needs.{needs}
@@ -25,9 +24,9 @@ returns c =
     let s = c .before .before .before .before .args in
     let d = tables (s .book .now) in
     let mask = c .before .row .ensures in
-    let full : length (s .book .now) ≡ 4676 = omega arith in
+    let full : Full (s .book .now) = omega arith in
     let isSet : isOpen d (s .a) ≡ true = ap not (ne-eqb _ 0 (λ z. c .if1 .taken (mask ∙ z))) in
-    settled-kept (decide-refused d openOrder (s .a) 0 (s .c) (say 5 0 0) (given-yes _ _ accepted isSet) refl) refl full
+    settled-kept (decide-refused d openOrder (s .a) 0 (s .c) (say 5) (given-yes _ _ accepted isSet) refl) refl full
 
 set-order-requires : tie.Need-set-order-requires
 set-order-requires c κs = search needs

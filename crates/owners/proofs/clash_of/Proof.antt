@@ -26,7 +26,8 @@ is-clash-requires c κs = search needs
 returns : tie.Need-returns Inv-loop μ-loop
 returns c =
     let s = c .before .before .before .before .before .args in
-    search-at (clash ((tables (s .book .now)) .row SME) (s .gain) (s .owned)) (omega arith) (c .before .before .before .loop .inv .1) (sym (c .before .is-clash .ensures) ∙ c .if1 .taken)
+    search-at (clash ((tables (s .book .now)) .row SME) (s .gain) (s .owned)) (omega arith) (c .before .before .before .loop .inv .1)
+    (sym (c .before .is-clash .ensures) ∙ c .if1 .taken)
 
 add-t : tie.Need-add-t Inv-loop μ-loop
 add-t c = search needs
@@ -36,11 +37,16 @@ loop-less c = search needs
 
 loop-again : tie.Need-loop-again Inv-loop μ-loop
 loop-again c =
-    let s = c .before .before .before .before .before .args in
-    (omega arith, search-on (clash ((tables (s .book .now)) .row SME) (s .gain) (s .owned)) (omega arith) (c .before .before .before .loop .inv .1) (sym (c .before .is-clash .ensures) ∙ c .if1 .left))
+    let s = c .before .before .before .before .before .args in (
+      omega arith,
+      search-on (clash ((tables (s .book .now)) .row SME) (s .gain) (s .owned)) (omega arith)
+          (c .before .before .before .loop .inv .1) (sym (c .before .is-clash .ensures) ∙ c .if1 .left),
+    )
 
 returns-2 : tie.Need-returns-2 Inv-loop μ-loop
-returns-2 c = let s = c .before .before .before .args in search-out (clash ((tables (s .book .now)) .row SME) (s .gain) (s .owned)) (omega arith) (omega arith) (c .before .loop .inv .1)
+returns-2 c =
+    let s = c .before .before .before .args in
+    search-out (clash ((tables (s .book .now)) .row SME) (s .gain) (s .owned)) (omega arith) (omega arith) (c .before .loop .inv .1)
 
 pub clash-of-spec : {M : Type 1} → statement M
 clash-of-spec =

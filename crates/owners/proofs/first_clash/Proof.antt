@@ -14,7 +14,9 @@ use Rattle.owners.proofs.first_clash.Statement.{statement}
 use Rattle.owners.proofs.first_clash.Tie as tie
 
 abbrev Inv-loop : tie.InvT-loop
-Inv-loop book owner b gain o₀ o = (o ≤ 64) × (searchRest (paired (clashesBelow (tables book) owner b gain)) o 64 ≡ lowest (paired (clashesBelow (tables book) owner b gain)))
+Inv-loop book owner b gain o₀ o =
+    let clashing = paired (clashesBelow (tables book) owner b gain) in
+    (o ≤ 64) × (searchRest clashing o 64 ≡ lowest clashing)
 
 abbrev μ-loop : tie.MeasureT-loop
 μ-loop book owner b gain o₀ o = 64 - o

@@ -12,7 +12,9 @@ use Rattle.owners.proofs.lowest_owner_of_both.Statement.{statement}
 use Rattle.owners.proofs.lowest_owner_of_both.Tie as tie
 
 abbrev Inv-loop : tie.InvT-loop
-Inv-loop book owner a b o₀ o = (o ≤ 64) × (searchRest (ownsBoth (tables book) (startOf (tables book) owner) a b) o 64 ≡ lowest (ownsBoth (tables book) (startOf (tables book) owner) a b))
+Inv-loop book owner a b o₀ o =
+    let both = ownsBoth (tables book) (startOf (tables book) owner) a b in
+    (o ≤ 64) × (searchRest both o 64 ≡ lowest both)
 
 abbrev μ-loop : tie.MeasureT-loop
 μ-loop book owner a b o₀ o = 64 - o
@@ -26,7 +28,8 @@ owns-both-requires c κs = search needs
 returns : tie.Need-returns Inv-loop μ-loop
 returns c =
     let s = c .before .before .before .before .before .args in
-    search-at (ownsBoth (tables (s .book .now)) (startOf (tables (s .book .now)) (s .owner)) (s .a) (s .b)) (omega arith) (c .before .before .before .loop .inv .1) (sym (c .before .owns-both .ensures) ∙ c .if1 .taken)
+    search-at (ownsBoth (tables (s .book .now)) (startOf (tables (s .book .now)) (s .owner)) (s .a) (s .b)) (omega arith)
+    (c .before .before .before .loop .inv .1) (sym (c .before .owns-both .ensures) ∙ c .if1 .taken)
 
 add-o : tie.Need-add-o Inv-loop μ-loop
 add-o c = search needs
@@ -36,11 +39,17 @@ loop-less c = search needs
 
 loop-again : tie.Need-loop-again Inv-loop μ-loop
 loop-again c =
-    let s = c .before .before .before .before .before .args in
-    (omega arith, search-on (ownsBoth (tables (s .book .now)) (startOf (tables (s .book .now)) (s .owner)) (s .a) (s .b)) (omega arith) (c .before .before .before .loop .inv .1) (sym (c .before .owns-both .ensures) ∙ c .if1 .left))
+    let s = c .before .before .before .before .before .args in (
+      omega arith,
+      search-on (ownsBoth (tables (s .book .now)) (startOf (tables (s .book .now)) (s .owner)) (s .a) (s .b)) (omega arith)
+          (c .before .before .before .loop .inv .1) (sym (c .before .owns-both .ensures) ∙ c .if1 .left),
+    )
 
 returns-2 : tie.Need-returns-2 Inv-loop μ-loop
-returns-2 c = let s = c .before .before .before .args in search-out (ownsBoth (tables (s .book .now)) (startOf (tables (s .book .now)) (s .owner)) (s .a) (s .b)) (omega arith) (omega arith) (c .before .loop .inv .1)
+returns-2 c =
+    let s = c .before .before .before .args in
+    search-out (ownsBoth (tables (s .book .now)) (startOf (tables (s .book .now)) (s .owner)) (s .a) (s .b)) (omega arith) (omega arith)
+    (c .before .loop .inv .1)
 
 pub lowest-owner-of-both-spec : {M : Type 1} → statement M
 lowest-owner-of-both-spec =

@@ -1,40 +1,34 @@
--- Refused where the bit stands, else where a search finds an open order.
-use mathlib.Core.Path.{_≡_, refl, sym, ap, _∙_}
-use Prim.Native.Nat.{ℕ}
-use Rattle.sets.specs.Mask.{bit}
-use Rattle.rules.specs.Numbers.{stateRefusal}
-use Rattle.deeds.proofs.CascadeLaws.{given-yes, given-no, lowest-yes, lowest-no}
+-- Each answer from what has been read by then.
+use mathlib.Core.Path.{sym, _∙_}
+use Rattle.book.specs.Slice.{tables}
+use Rattle.pairs.proofs.PairAnswers.{pair-set, order-open, pair-free}
 use borrow.Author.Needs.{needs}
 use Rattle.pairs.proofs.pair_refusal.Statement.{statement}
 use Rattle.pairs.proofs.pair_refusal.Tie as tie
 
-row-requires : tie.Need-row-requires
-row-requires c κs = search needs
-
-has-requires : tie.Need-has-requires
-has-requires c κs = search needs
+is-in-row-requires : tie.Need-is-in-row-requires
+is-in-row-requires c κs = search needs
 
 returns : tie.Need-returns
-unfolding stateRefusal
 returns c =
-    let there = ap (λ (m : ℕ). bit m (c .before .before .before .before .args .b)) (sym (c .before .before .row .ensures)) ∙ sym (c .before .has .ensures) in
-    given-yes _ _ _ (there ∙ c .if1 .taken)
+    let s = c .before .before .before .args in
+    pair-set (tables (s .book .now)) (s .table) (s .a) (s .b) 0 (sym (c .before .is-in-row .ensures) ∙ c .if1 .taken)
 
 lowest-open-requires : tie.Need-lowest-open-requires
 lowest-open-requires c κs = search needs
 
 returns-2 : tie.Need-returns-2
-unfolding stateRefusal
 returns-2 c =
-    let there = ap (λ (m : ℕ). bit m (c .before .before .before .before .before .before .args .b)) (sym (c .before .before .before .before .row .ensures)) ∙ sym (c .before .before .before .has .ensures) in
-    given-no _ _ _ (there ∙ c .before .before .if1 .left) (lowest-yes _ _ _ (c .before .lowest-open .ensures) (c .if2 .taken))
+    let s = c .before .before .before .before .before .args in
+    order-open (tables (s .book .now)) (s .table) (s .a) (s .b) 0
+    (sym (c .before .before .before .is-in-row .ensures) ∙ c .before .before .if1 .left) (c .before .lowest-open .ensures) (c .if2 .taken)
 
 returns-3 : tie.Need-returns-3
-unfolding stateRefusal
 returns-3 c =
-    let there = ap (λ (m : ℕ). bit m (c .before .before .before .before .before .before .args .b)) (sym (c .before .before .before .before .row .ensures)) ∙ sym (c .before .before .before .has .ensures) in
-    given-no _ _ _ (there ∙ c .before .before .if1 .left) (lowest-no _ _ _ (c .before .lowest-open .ensures) (c .if2 .left) refl)
+    let s = c .before .before .before .before .before .args in
+    pair-free (tables (s .book .now)) (s .table) (s .a) (s .b) 0
+    (sym (c .before .before .before .is-in-row .ensures) ∙ c .before .before .if1 .left) (c .before .lowest-open .ensures) (c .if2 .left)
 
 pub pair-refusal-spec : {M : Type 1} → statement M
 pair-refusal-spec =
-    tie.close (tie.spec row-requires has-requires returns lowest-open-requires returns-2 returns-3)
+    tie.close (tie.spec is-in-row-requires returns lowest-open-requires returns-2 returns-3)

@@ -1,8 +1,8 @@
 -- Judged on the book as it stands; both bits are stored only where the answer is 0.
-use mathlib.Core.Path.{_≡_, sym, _∙_}
+use mathlib.Core.Path.{sym, _∙_}
 use native.Mathlib.Omega.{arith}
-use lib.ListN.{length}
 use Rattle.rules.specs.Requests.{change}
+use Rattle.book.specs.Slice.{Full}
 use Rattle.deeds.proofs.OutcomeLaws.{settled-changed, settled-kept}
 use Rattle.pairs.proofs.PairAdded.{pair-added}
 use borrow.Author.Needs.{needs}
@@ -29,14 +29,17 @@ unfolding change
 returns c =
     let first = c .before .before .before .before .before .before .add-to-row .ensures in
     let second = c .before .before .add-to-row2 .ensures in
-    settled-changed (c .before .before .before .before .before .before .before .before .before .before .judge-pair .ensures) (sym (c .before .before .before .before .before .before .before .before .before .is-accepted .ensures) ∙ c .before .before .before .before .before .before .before .before .if1 .taken) (second .0) (pair-added _ _ _ _ _ _ (first .1) (second .1))
+    settled-changed (c .before .before .before .before .before .before .before .before .before .before .judge-pair .ensures)
+    (sym (c .before .before .before .before .before .before .before .before .before .is-accepted .ensures)
+    ∙ c .before .before .before .before .before .before .before .before .if1 .taken)
+    (second .0) (pair-added _ _ _ _ _ _ (first .1) (second .1))
 
 same-length-2 : tie.Need-same-length-2
 same-length-2 c = search needs
 
 returns-2 : tie.Need-returns-2
 returns-2 c =
-    let full : length (c .before .before .before .before .before .args .book .now) ≡ 4676 = omega arith in
+    let full : Full (c .before .before .before .before .before .args .book .now) = omega arith in
     settled-kept (c .before .before .judge-pair .ensures) (sym (c .before .is-accepted .ensures) ∙ c .if1 .left) full
 
 pub relate-spec : {M : Type 1} → statement M

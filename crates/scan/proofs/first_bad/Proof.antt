@@ -4,7 +4,7 @@ use mathlib.Core.Path.{_≡_, refl, sym, _∙_}
 use Prim.Native.Nat.{_≤_, _-_}
 use native.Mathlib.Omega.{arith}
 use Rattle.sets.proofs.SearchLaws.{searchRest, search-on, search-at, search-out}
-use Rattle.rules.specs.Book.{bad, firstBad}
+use Rattle.rules.specs.Book.{bookWords, bad, firstBad}
 use Rattle.book.specs.Slice.{words, tables}
 use Rattle.scan.proofs.BadLaws.{zero-good, as-placed}
 use borrow.Author.Needs.{needs}
@@ -12,10 +12,10 @@ use Rattle.scan.proofs.first_bad.Statement.{statement}
 use Rattle.scan.proofs.first_bad.Tie as tie
 
 abbrev Inv-loop : tie.InvT-loop
-Inv-loop book i₀ i = (i ≤ 4676) × (searchRest (bad (tables book)) i 4676 ≡ firstBad (tables book))
+Inv-loop book i₀ i = (i ≤ bookWords) × (searchRest (bad (tables book)) i bookWords ≡ firstBad (tables book))
 
 abbrev μ-loop : tie.MeasureT-loop
-μ-loop book i₀ i = 4676 - i
+μ-loop book i₀ i = bookWords - i
 
 loop-holds : tie.Need-loop-holds Inv-loop μ-loop
 unfolding firstBad
@@ -39,15 +39,15 @@ loop-again c =
     let i = c .before .before .before .loop .i in
     (omega arith, search-on (bad (tables l)) (omega arith) (c .before .before .before .loop .inv .1) (zero-good (words l) i (omega arith) (c .if1 .taken)))
 
-is-bad-requires : tie.Need-is-bad-requires Inv-loop μ-loop
-is-bad-requires c κs = search needs
+is-bad-at-requires : tie.Need-is-bad-at-requires Inv-loop μ-loop
+is-bad-at-requires c κs = search needs
 
 returns : tie.Need-returns Inv-loop μ-loop
 returns c =
     let l = c .before .before .before .before .before .before .before .args .book .now in
     let i = c .before .before .before .before .before .loop .i in
     search-at (bad (tables l)) (omega arith) (c .before .before .before .before .before .loop .inv .1)
-    (as-placed (words l) i (omega arith) (c .before .before .if1 .left) ∙ sym (c .before .is-bad .ensures) ∙ c .if2 .taken)
+    (as-placed (words l) i (omega arith) (c .before .before .if1 .left) ∙ sym (c .before .is-bad-at .ensures) ∙ c .if2 .taken)
 
 add-i-2 : tie.Need-add-i-2 Inv-loop μ-loop
 add-i-2 c = search needs
@@ -61,7 +61,7 @@ loop-again-2 c =
     let i = c .before .before .before .before .before .loop .i in (
       omega arith,
       search-on (bad (tables l)) (omega arith) (c .before .before .before .before .before .loop .inv .1)
-          (as-placed (words l) i (omega arith) (c .before .before .if1 .left) ∙ sym (c .before .is-bad .ensures) ∙ c .if2 .left),
+          (as-placed (words l) i (omega arith) (c .before .before .if1 .left) ∙ sym (c .before .is-bad-at .ensures) ∙ c .if2 .left),
     )
 
 returns-2 : tie.Need-returns-2 Inv-loop μ-loop
@@ -79,7 +79,7 @@ first-bad-spec =
     add-i
     loop-less
     loop-again
-    is-bad-requires
+    is-bad-at-requires
     returns
     add-i-2
     loop-less-2

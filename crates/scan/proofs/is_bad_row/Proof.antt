@@ -57,28 +57,32 @@ returns : tie.Need-returns
 unfolding rowTests
 returns c =
     let s = c .before .before .before .before .before .before .before .before .args in
-    let placed = row-test (tables (s .book .now)) (s .table) juniors (s .r) _ (c .before .before .before .before .before .before .row .ensures) (c .before .before .match .keys1) in
+    let placed = row-test (tables (s .book .now)) (s .table) juniors (s .r) _
+    (c .before .before .before .before .before .before .row .ensures) (c .before .before .match .keys1) in
     cc
 
 returns-2 : tie.Need-returns-2
 unfolding rowTests
 returns-2 c =
     let s = c .before .before .before .before .before .before .before .before .args in
-    let placed = row-test (tables (s .book .now)) (s .table) tasksOf (s .r) _ (c .before .before .before .before .before .before .row .ensures) (c .before .before .match .keys2) in
+    let placed = row-test (tables (s .book .now)) (s .table) tasksOf (s .r) _
+    (c .before .before .before .before .before .before .row .ensures) (c .before .before .match .keys2) in
     cc
 
 returns-3 : tie.Need-returns-3
 unfolding rowTests
 returns-3 c =
     let s = c .before .before .before .before .before .before .before .before .args in
-    let placed = row-test (tables (s .book .now)) (s .table) rolesOf (s .r) _ (c .before .before .before .before .before .before .row .ensures) (c .before .before .match .keys3) in
+    let placed = row-test (tables (s .book .now)) (s .table) rolesOf (s .r) _
+    (c .before .before .before .before .before .before .row .ensures) (c .before .before .match .keys3) in
     cc
 
 returns-4 : tie.Need-returns-4
 unfolding rowTests
 returns-4 c =
     let s = c .before .before .before .before .before .before .before .before .args in
-    let placed = row-test (tables (s .book .now)) (s .table) active (s .r) _ (c .before .before .before .before .before .before .row .ensures) (c .before .before .match .keys4) in
+    let placed = row-test (tables (s .book .now)) (s .table) active (s .r) _
+    (c .before .before .before .before .before .before .row .ensures) (c .before .before .match .keys4) in
     cc
 
 returns-5 : tie.Need-returns-5
@@ -86,7 +90,8 @@ unfolding rowTests
 returns-5 c =
     let s = c .before .before .before .before .before .before .before .before .before .args in
     let d = tables (s .book .now) in
-    let placed = row-test d (s .table) (s .table) (s .r) _ (c .before .before .before .before .before .before .before .row .ensures) refl ∙ pair-test d (s .table) (s .r) _ (omega arith) in
+    let placed = row-test d (s .table) (s .table) (s .r) _ (c .before .before .before .before .before .before .before .row .ensures) refl
+    ∙ pair-test d (s .table) (s .r) _ (omega arith) in
     cc
 
 returns-6 : tie.Need-returns-6

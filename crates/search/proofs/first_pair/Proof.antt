@@ -13,13 +13,17 @@ use Rattle.search.proofs.first_pair.Statement.{statement}
 use Rattle.search.proofs.first_pair.Tie as tie
 
 abbrev Inv-loop : tie.InvT-loop
-Inv-loop book table xs ys found₀ x partners y₀ found y = (y ≤ 64) × (searchRest (between ((tables book) .row table) xs ys x) y 64 ≡ lowest (between ((tables book) .row table) xs ys x)) × (found ≡ Nothing)
+Inv-loop book table xs ys found₀ x partners y₀ found y =
+    let partner = between ((tables book) .row table) xs ys x in
+    (y ≤ 64) × (searchRest partner y 64 ≡ lowest partner) × (found ≡ Nothing)
 
 abbrev μ-loop : tie.MeasureT-loop
 μ-loop book table xs ys found₀ x partners y₀ found y = 64 - y
 
 abbrev Inv-search : tie.InvT-search
-Inv-search book table xs ys found₀ x₀ found x = (x ≤ 64) × (searchRest (paired (between ((tables book) .row table) xs ys)) x 64 ≡ lowest (paired (between ((tables book) .row table) xs ys))) × (found ≡ Nothing)
+Inv-search book table xs ys found₀ x₀ found x =
+    let partnered = paired (between ((tables book) .row table) xs ys) in
+    (x ≤ 64) × (searchRest partnered x 64 ≡ lowest partnered) × (found ≡ Nothing)
 
 abbrev μ-search : tie.MeasureT-search
 μ-search book table xs ys found₀ x₀ found x = 64 - x
@@ -62,7 +66,8 @@ loop-again c =
     let l = c .before .before .before .loop in
     let x = c .before .before .before .before .before .before .before .search .x in
     let rows = (tables (s .book .now)) .row (s .table) in
-    let fails = partner-test rows (s .xs) (s .ys) x (l .y) (c .before .before .before .before .before .partners-of .ensures) (c .before .has .ensures) (c .if2 .left) in
+    let fails = partner-test rows (s .xs) (s .ys) x (l .y) (c .before .before .before .before .before .partners-of .ensures)
+    (c .before .has .ensures) (c .if2 .left) in
     (omega arith, search-on (between rows (s .xs) (s .ys) x) (omega arith) (l .inv .1) fails, l .inv .2)
 
 add-x-2 : tie.Need-add-x-2 Inv-loop μ-loop Inv-search μ-search
@@ -91,7 +96,8 @@ returns-2 c =
     let l = c .before .before .before .before .before .before .before .search in
     let inner = c .before .before .before .loop in
     let rows = (tables (s .book .now)) .row (s .table) in
-    let passes = partner-test rows (s .xs) (s .ys) (l .x) (inner .y) (c .before .before .before .before .before .partners-of .ensures) (c .before .has .ensures) (c .if2 .taken) in
+    let passes = partner-test rows (s .xs) (s .ys) (l .x) (inner .y) (c .before .before .before .before .before .partners-of .ensures)
+    (c .before .has .ensures) (c .if2 .taken) in
     pair-at (between rows (s .xs) (s .ys)) (l .x) (inner .y) (omega arith) (omega arith) (l .inv .1) (inner .inv .1) passes
 
 pub first-pair-spec : {M : Type 1} → statement M

@@ -1,7 +1,6 @@
 -- The test is the definition's.
 use mathlib.Core.Path.{refl}
 use Rattle.sets.specs.Mask.{within}
-use borrow.Author.Needs.{needs}
 use Rattle.sets.proofs.inside.Statement.{statement}
 use Rattle.sets.proofs.inside.Tie as tie
 

@@ -1,7 +1,6 @@
 -- The test is the definition's.
 use mathlib.Core.Path.{refl}
 use Rattle.sets.specs.Mask.{meet}
-use borrow.Author.Needs.{needs}
 use Rattle.sets.proofs.meets.Statement.{statement}
 use Rattle.sets.proofs.meets.Tie as tie
 

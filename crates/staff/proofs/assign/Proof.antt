@@ -1,8 +1,8 @@
--- Judged on the book as it stands; stored only where the answer is 0.
-use mathlib.Core.Path.{_≡_, sym, _∙_}
+-- Judged on the book as it stands; the assignment is stored only where the answer is 0.
+use mathlib.Core.Path.{sym, _∙_}
 use native.Mathlib.Omega.{arith}
-use lib.ListN.{length}
 use Rattle.rules.specs.Requests.{change}
+use Rattle.book.specs.Slice.{Full}
 use Rattle.deeds.proofs.OutcomeLaws.{settled-changed, settled-kept}
 use borrow.Author.Needs.{needs}
 use Rattle.staff.proofs.assign.Statement.{statement}
@@ -24,14 +24,16 @@ returns : tie.Need-returns
 unfolding change
 returns c =
     let stored = c .before .before .store-assignment .ensures in
-    settled-changed (c .before .before .before .before .before .before .judge-assignment .ensures) (sym (c .before .before .before .before .before .is-accepted .ensures) ∙ c .before .before .before .before .if1 .taken) (stored .0) (stored .1)
+    settled-changed (c .before .before .before .before .before .before .judge-assignment .ensures)
+    (sym (c .before .before .before .before .before .is-accepted .ensures) ∙ c .before .before .before .before .if1 .taken) (stored .0)
+    (stored .1)
 
 same-length-2 : tie.Need-same-length-2
 same-length-2 c = search needs
 
 returns-2 : tie.Need-returns-2
 returns-2 c =
-    let full : length (c .before .before .before .before .before .args .book .now) ≡ 4676 = omega arith in
+    let full : Full (c .before .before .before .before .before .args .book .now) = omega arith in
     settled-kept (c .before .before .judge-assignment .ensures) (sym (c .before .is-accepted .ensures) ∙ c .if1 .left) full
 
 pub assign-spec : {M : Type 1} → statement M

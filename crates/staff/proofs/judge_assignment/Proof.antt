@@ -1,6 +1,7 @@
--- The refusal first, then the conflicts.
+-- The refusals first, then the conflicts.
 use mathlib.Core.Path.{sym, _∙_}
 use borrow.Author.Tests.{not-true, not-false}
+use Rattle.rules.specs.Numbers.{conflicts}
 use Rattle.deeds.proofs.OutcomeLaws.{decide-refused, decide-conflict}
 use borrow.Author.Needs.{needs}
 use Rattle.staff.proofs.judge_assignment.Statement.{statement}
@@ -19,7 +20,10 @@ assign-conflict-requires : tie.Need-assign-conflict-requires
 assign-conflict-requires c κs = search needs
 
 returns-2 : tie.Need-returns-2
-returns-2 c = decide-conflict _ _ _ _ _ _ _ (c .before .before .before .assign-refusal .ensures) (sym (c .before .before .is-accepted .ensures) ∙ not-false _ (c .before .if1 .left)) (c .assign-conflict .ensures)
+unfolding conflicts
+returns-2 c =
+    decide-conflict _ _ _ _ _ _ _ (c .before .before .before .assign-refusal .ensures)
+    (sym (c .before .before .is-accepted .ensures) ∙ not-false _ (c .before .if1 .left)) (c .assign-conflict .ensures)
 
 pub judge-assignment-spec : {M : Type 1} → statement M
 judge-assignment-spec =

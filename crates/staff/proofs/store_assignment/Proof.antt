@@ -1,5 +1,5 @@
 -- The bit first; then, for a role of a subject with no active role, the active word.
-use mathlib.Core.Path.{_≡_, sym, _∙_}
+use mathlib.Core.Path.{sym, _∙_}
 use Rattle.book.specs.Slice.{tables}
 use Rattle.staff.proofs.AssignmentLaws.{assigned-other, assigned-first, assigned-again, active-stored}
 use borrow.Author.Needs.{needs}
@@ -27,8 +27,12 @@ returns c =
     let d = tables (s .book .now) in
     let bit-stored = c .before .before .before .before .before .before .before .before .add-to-row .ensures in
     let stored = c .before .before .set-row .ensures in
-    let was = c .before .before .before .before .before .before .before .before .before .before .row .ensures in
-    (stored .0, active-stored d (s .table) (s .a) (s .b) (bit-stored .1) (stored .1) ∙ assigned-first d (s .table) (s .a) (s .b) (c .before .before .before .before .before .if1 .taken) (sym was ∙ c .before .before .before .before .if2 .taken))
+    let was = c .before .before .before .before .before .before .before .before .before .before .row .ensures in (
+      stored .0,
+      active-stored d (s .table) (s .a) (s .b) (bit-stored .1) (stored .1)
+          ∙ assigned-first d (s .table) (s .a) (s .b)
+          (c .before .before .before .before .before .if1 .taken) (sym was ∙ c .before .before .before .before .if2 .taken),
+    )
 
 same-length-2 : tie.Need-same-length-2
 same-length-2 c = search needs

@@ -19,7 +19,8 @@ is-kept-in-requires-4 c κs = search needs
 
 returns : tie.Need-returns
 returns c =
-    ap₂ _&&_ (c .before .before .before .is-kept-in .ensures) (ap₂ _&&_ (c .before .before .is-kept-in2 .ensures) (ap₂ _&&_ (c .before .is-kept-in3 .ensures) (c .is-kept-in4 .ensures)))
+    ap₂ _&&_ (c .before .before .before .is-kept-in .ensures)
+    (ap₂ _&&_ (c .before .before .is-kept-in2 .ensures) (ap₂ _&&_ (c .before .is-kept-in3 .ensures) (c .is-kept-in4 .ensures)))
 
 pub is-kept-in-four-spec : {M : Type 1} → statement M
 is-kept-in-four-spec =

@@ -1,8 +1,8 @@
--- No owned task clashes with those owned.
+-- The search for a clash of what is owned with itself ends at 64.
 use mathlib.Core.Path.{ap, _∙_}
 use Rattle.rules.specs.Book.{SME}
 use Rattle.rules.specs.Trade.{ownedTasks}
-use Rattle.rules.specs.Audit.{pairFree}
+use Rattle.rules.specs.Audit.{pairFree, ownerFree}
 use Rattle.book.specs.Slice.{tables}
 use Rattle.table_rules.proofs.RuleLaws.{pair-free-seen}
 use borrow.Author.Needs.{needs}
@@ -19,9 +19,11 @@ clash-of-requires : tie.Need-clash-of-requires
 clash-of-requires c κs = search needs
 
 returns : tie.Need-returns
+unfolding ownerFree
 returns c =
     let d = tables (c .before .before .before .before .args .book .now) in
-    pair-free-seen (d .row SME) _ (c .clash-of .ensures) ∙ ap (pairFree (d .row SME)) (c .before .owned-tasks .ensures ∙ ap (ownedTasks d) (c .before .before .start-of .ensures))
+    pair-free-seen (d .row SME) _ (c .clash-of .ensures) ∙ ap (pairFree (d .row SME))
+    (c .before .owned-tasks .ensures ∙ ap (ownedTasks d) (c .before .before .start-of .ensures))
 
 pub is-pair-free-spec : {M : Type 1} → statement M
 is-pair-free-spec =

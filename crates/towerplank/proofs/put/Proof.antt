@@ -1,6 +1,5 @@
 -- The four words are stored as one array.
 use mathlib.Core.Path.{refl}
-use borrow.Author.Needs.{needs}
 use Rattle.towerplank.proofs.put.Statement.{statement}
 use Rattle.towerplank.proofs.put.Tie as tie
 

@@ -1,8 +1,7 @@
 -- The four words are those of the reply to what the request was answered, and the book is as the request left it.
 use mathlib.Core.Path.{ap, _∙_}
 use borrow.Author.Needs.{needs}
-use Rattle.desk.specs.Guarantee.{Answered}
-use Rattle.towerplank.specs.Told.{listed, fourWords, Told}
+use Rattle.towerplank.specs.Told.{listed, fourWords}
 use Rattle.towerplank.proofs.towerplank_request.Statement.{statement}
 use Rattle.towerplank.proofs.towerplank_request.Tie as tie
 
@@ -23,8 +22,7 @@ returns c =
     let answered = c .before .before .before .before .before .request .ensures in
     record {
       told = c .put .ensures ∙ ap listed (c .before .before .told .ensures) ∙ ap fourWords (answered .told);
-      as-long = answered .as-long;
-      each-word = answered .each-word;
+      stored = answered .stored;
     }
 
 pub towerplank-request-spec : {M : Type 1} → statement M

@@ -1,0 +1,6 @@
+pub mod Trial
+pub mod Pairs
+pub mod Staff
+pub mod Orders
+pub mod Guarded
+pub mod Tried
