@@ -1,8 +1,7 @@
-/* size_t and NULL: the kit's compiler comes without headers, and this is all that the C code here needs of this one. */
+/* size_t: the kit's compiler comes without headers, and this is all that the C code here needs of this one. */
 #ifndef TOOLS_C_STDDEF_H
 #define TOOLS_C_STDDEF_H
 
 typedef __SIZE_TYPE__ size_t;
-#define NULL ((void *)0)
 
 #endif

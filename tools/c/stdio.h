@@ -2,6 +2,14 @@
 #ifndef TOOLS_C_STDIO_H
 #define TOOLS_C_STDIO_H
 
+#ifdef __cplusplus
+extern "C" {
+#endif
+
 int printf(const char *format, ...);
+
+#ifdef __cplusplus
+}
+#endif
 
 #endif

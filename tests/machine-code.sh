@@ -1,0 +1,49 @@
+# What include/towerplank.h and docs/INTEGRATOR.md say of the library's machine code, looked up in the archive: registers, red zone,
+# alignment, variables, what it takes from outside, and the stack. Sourced by .ci/run, or run by itself.
+type holds >/dev/null 2>&1 || . "$(dirname "${BASH_SOURCE[0]}")/alone"
+
+room=$(mktemp -d)
+archive=$(tools/library)
+
+# trade::spread goes as deep as the steps that it is given, 64 and falling by one, and once more with none left.
+tools/machine-code "$archive" trade::spread=65 >"$room/code"
+looked=$?
+
+says() { grep -qx "$1" "$room/code" || { grep "^${1%%:*}:" "$room/code"; return 1; }; }
+
+# The deepest stack, with a quarter of TOWERPLANK_STACK left over: for memset, and for a compiler that does otherwise.
+leaves_room() {
+    stack=$(sed -n 's/^#define TOWERPLANK_STACK //p' include/towerplank.h)
+    deepest=$(sed -n 's/^deepest stack of towerplank_.*: \([0-9]*\) bytes$/\1/p' "$room/code" | sort -n | tail -n 1)
+    [ -n "$stack" ] && [ -n "$deepest" ] && [ "$deepest" -le $((stack / 4 * 3)) ] || { echo "$deepest of $stack bytes"; return 1; }
+}
+
+# A function that does what the library must not: each of its sins has to be seen.
+sees_greed() {
+    toolchain=$(dirname "$(dirname "$(rt doc)")")/on/$(uname -m)/toolchain/bin
+    "$toolchain/clang" --target=x86_64-unknown-linux-gnu -O3 -mavx2 -nostdinc -isystem tools/c -c -o "$room/greedy.o" tests/c/greedy.c &&
+        "$toolchain/llvm-ar" rcs "$room/greedy.a" "$room/greedy.o" && tools/machine-code "$room/greedy.a" >"$room/greed" || return 1
+    for clean in 'variables outside the stack: none' 'AVX, x87 and MMX registers: none' 'instructions that not every x86-64 has: none' \
+        'system calls, segments, privileged instructions: none' 'red zone: not used'; do
+        grep -q "^${clean%%:*}:" "$room/greed" && ! grep -qx "$clean" "$room/greed" || { echo "not seen: $clean"; return 1; }
+    done
+}
+
+if [ "$looked" -eq 3 ]; then
+    echo "not looked at: the library's machine code"
+else
+    holds "the library's machine code can be counted" test "$looked" -eq 0
+    holds "the library has no variables" says 'variables outside the stack: none'
+    holds "the library uses the general and the xmm registers" says 'registers: general, xmm'
+    holds "the library uses no AVX, x87 and MMX registers" says 'AVX, x87 and MMX registers: none'
+    holds "the library uses instructions that every x86-64 has" says 'instructions that not every x86-64 has: none'
+    holds "the library makes no system call and does nothing privileged" says 'system calls, segments, privileged instructions: none'
+    holds "the library uses no red zone" says 'red zone: not used'
+    holds "the library needs an aligned stack, as its header asks" says 'accesses that need an aligned stack: some'
+    holds "the library calls nothing through a pointer" says 'calls through pointers: none'
+    holds "the library can be put anywhere in memory" says 'relocations: R_X86_64_PC32 R_X86_64_PLT32'
+    holds "the library takes nothing from outside but memset" says 'taken from outside: memset'
+    holds "the frames of a call fit TOWERPLANK_STACK, and a quarter is left" leaves_room
+    holds "a function that does all that is seen to" sees_greed
+fi
+rm -rf "$room"
