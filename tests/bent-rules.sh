@@ -1,38 +1,175 @@
-# The rules bent, one at a time, as the source papers and hasty programs bend them: each time the proofs must fail, at the law named
-# here. A must-fail edit of rt reaches its own crate alone; these bend crate rules and are refused by crate demands, the last one
-# already by the law of crate rules that says what the role group is.
+# The rules bent, one at a time, as the source papers and hasty programs bend them. Of the bent rules it is proved that they do not meet
+# demand 3: at the book of one trial (crate trials) a request is accepted although the changed book breaks a rule, or refused although
+# it breaks none. Of rules that are only written another way it is proved that the trial still holds. The copy has the definitions
+# and the law that a trial is demand 3 at its book, and no other law: those would be refused for the wording alone.
+# Sourced by .ci/run, or called alone.
+
+type holds >/dev/null 2>&1 || . "$(dirname "${BASH_SOURCE[0]}")/alone"
 
 bent=$(mktemp -d)
-mkdir "$bent/crates"
-printf 'sets:\nchains: sets\nrules: sets chains\ndemands: sets chains rules\n' >"$bent/crates.txt"
-cp -R crates/sets crates/chains crates/rules crates/demands "$bent/crates/"
-rm -rf "$bent"/crates/*/must-fail
+bent_count=0
 
-refused() { # FILE OLD NEW LAW: with NEW for OLD in the file of crate rules, LAW is refused
-    file=$bent/crates/rules/specs/$1
-    text=$(cat "$file")
-    [ "$text" != "${text/"$2"/}" ] || { echo "$1 does not have: $2"; return 1; }
-    printf '%s\n' "${text/"$2"/"$3"}" >"$file"
-    (cd "$bent" && rt check demands) >"$bent/log" 2>&1
-    status=$?
-    printf '%s\n' "$text" >"$file"
-    [ "$status" -eq 1 ] && grep -q "error: \`$4\`" "$bent/log" && return 0
-    grep -m 3 'error' "$bent/log" | cut -c 1-300
-    return 1
+# What is to be proved at the trial.
+bent_claim() { # CLAIM FAMILY TRIAL
+    cat <<END
+use lib.Dec.{T}
+use Rattle.rules.specs.Computed.{computed}
+use Rattle.demands.specs.Demand3.{ChecksExact}
+use Rattle.trials.specs.Trial.{fair, agrees, exact}
+use Rattle.trials.specs.$2.{$3}
+use Rattle.trials.proofs.Instances.{demand-3-tried}
+
+END
+    case $1 in
+    refuted) printf '%s\n' 'pub refuted : ChecksExact → ⊥' 'unfolding computed fair agrees exact' "refuted checks = demand-3-tried checks $3" ;;
+    stands) printf '%s\n' "pub stands : T (exact $3)" 'unfolding computed fair agrees exact' 'stands = tt' ;;
+    esac
 }
 
-bend() { # SENTENCE FILE OLD NEW LAW
-    what=$1
-    shift
-    holds "$what: refused at $4" refused "$@"
+# The definitions, with NEW for OLD in one file of the rules, and the claim.
+bent_copy() { # ROOM CLAIM FILE OLD NEW FAMILY TRIAL
+    for crate in sets chains rules demands trials; do
+        mkdir -p "$1/$crate/src"
+        : >"$1/$crate/src/lib.rt"
+        cp -R "crates/$crate/specs" "$1/$crate/specs"
+    done
+    mkdir "$1/sets/proofs" "$1/rules/proofs" "$1/trials/proofs"
+    cp crates/sets/proofs/Logic.antt "$1/sets/proofs/"
+    cp crates/rules/proofs/SaidLaws.antt crates/rules/proofs/SmallLaws.antt "$1/rules/proofs/"
+    cp crates/trials/proofs/Instances.antt "$1/trials/proofs/"
+    printf 'pub mod Logic\n' >"$1/sets/proofs/Lib.antt"
+    printf 'pub mod SaidLaws\npub mod SmallLaws\n' >"$1/rules/proofs/Lib.antt"
+    printf 'pub mod Instances\npub mod Claim\n' >"$1/trials/proofs/Lib.antt"
+    sed -i /Tried/d "$1/trials/specs/Lib.antt"
+    rm "$1/trials/specs/Tried.antt"
+    bent_claim "$2" "$6" "$7" >"$1/trials/proofs/Claim.antt"
+    text=$(cat "$1/rules/specs/$3")
+    rest=${text/"$4"/}
+    [ "$text" != "$rest" ] || { echo "crates/rules/specs/$3 does not have the text: $4"; return 1; }
+    [ "$rest" = "${rest/"$4"/}" ] || { echo "crates/rules/specs/$3 has the text more than once: $4"; return 1; }
+    printf '%s\n' 'use mathlib.Core.Bool.{_||_}' "${text/"$4"/"$5"}" >"$1/rules/specs/$3" # a bend may say "or"
 }
 
-(cd "$bent" && rt check) >"$bent/log" 2>&1
-holds "demand 3 is proved of the rules as they are" grep -q '^rt: ok' "$bent/log"
-bend "27 as 002 prints it, what a and b themselves exclude against the other's group" Numbers.antt 'between (d .row SME) (roleGroup d a) (roleGroup d b)' '(λ u v. between (d .row SME) (2 ^ a) (roleGroup d b) u v || between (d .row SME) (roleGroup d a) (2 ^ b) u v)' silent-sme-groups
-bend "27 only from the two tasks themselves" Numbers.antt '(d .row SME) (roleGroup d a) (roleGroup d b)' '(d .row SME) (2 ^ a) (2 ^ b)' silent-sme-groups
-bend "28 only from the two tasks themselves" Numbers.antt '(d .row DME) (subjectGroup d a) (subjectGroup d b)' '(d .row DME) (2 ^ a) (2 ^ b)' silent-dme-groups
-bend "31 without seniors" Numbers.antt '(λ o. ownsRole d (role o) b)' '(eqb b)' silent-task-assignment
-bend "33 left out" Numbers.antt 'conflicts allocate = heldSme ∷ heldDme ∷ []' 'conflicts allocate = heldDme ∷ []' allocate-exact
-bend "the role group without the mixed chain" Trade.antt 'group (mixed d SB RB) t' 'group (d .row RB) t' role-group
+# Says that the claim is proved, or what the prover says first.
+bent_verdict() { # ROOM CLAIM FILE OLD NEW FAMILY TRIAL
+    bent_copy "$@" || return
+    rt check "$1/trials" --lib "sets=$1/sets/src/lib.rt" --lib "chains=$1/chains/src/lib.rt" \
+        --lib "rules=$1/rules/src/lib.rt" --lib "demands=$1/demands/src/lib.rt" >"$1/log" 2>&1
+    if grep -q '^logic=proved' "$1/log"; then echo proved; else grep -m 1 error "$1/log" | cut -c 1-400; fi
+}
+
+# Starts one of them; as many run at a time as there are processors.
+bent_start() { # CLAIM SENTENCE FILE OLD NEW FAMILY TRIAL
+    bent_count=$((bent_count + 1))
+    printf '%s\n' "$1" "$2" "$7" >"$bent/$bent_count.asked"
+    [ "$(jobs -rp | wc -l)" -lt "${RT_JOBS:-$(nproc)}" ] || wait -n
+    (bent_verdict "$bent/$bent_count" "$1" "${@:3}" >"$bent/$bent_count.told" && rm -rf "${bent:?}/$bent_count") &
+}
+
+bend() { bent_start refuted "$@"; } # SENTENCE FILE OLD NEW FAMILY TRIAL
+same() { bent_start stands "$@"; }  # SENTENCE FILE OLD NEW FAMILY TRIAL
+
+bent_shown() { # TOLD
+    [ "$1" = proved ] || { echo "not proved: $1"; return 1; }
+}
+
+# ---- Checks too weak: a change is let through that breaks a rule
+
+bend "no conflict is ever given" Numbers.antt 'in f d a b rest' 'in rest' Pairs chainedSme
+bend "20 left out of kind 6" Numbers.antt \
+    'rbConflicts = selfConstraint ∷' 'rbConflicts =' Pairs ownBinding
+bend "21 left out of kind 4" Numbers.antt \
+    'selfConstraint ∷ alreadyDme ∷ oneSubjectGroup' 'selfConstraint ∷ oneSubjectGroup' Pairs alsoDme
+bend "22 left out of kind 5" Numbers.antt \
+    'selfConstraint ∷ alreadySme ∷ oneSubjectGroup' 'selfConstraint ∷ oneSubjectGroup' Pairs alsoSme
+bend "23 by the row, without chains" Numbers.antt 'bit (subjectGroup d a) b' 'bit (d .row SB a) b' Pairs boundSubjects
+bend "24 left out of kind 4" Numbers.antt '∷ oneRoleGroup ∷' '∷' Pairs boundRoles
+bend "25 left out of kind 4" Numbers.antt '∷ roleOwnsBoth ∷' '∷' Pairs roleOwns
+bend "26 left out of kind 4" Numbers.antt '∷ subjectOwnsBoth ∷' '∷' Pairs subjectOwns
+bend "27 as 002 prints it, what a and b themselves exclude against the other's group" Numbers.antt \
+    'between (d .row SME) (roleGroup d a) (roleGroup d b)' \
+    '(λ u v. between (d .row SME) (2 ^ a) (roleGroup d b) u v || between (d .row SME) (roleGroup d a) (2 ^ b) u v)' Pairs chainedSme
+bend "27 between the two tasks themselves" Numbers.antt \
+    '(d .row SME) (roleGroup d a) (roleGroup d b)' '(d .row SME) (2 ^ a) (2 ^ b)' Pairs chainedRoles
+bend "28 between the two tasks themselves" Numbers.antt \
+    '(d .row DME) (subjectGroup d a) (subjectGroup d b)' '(d .row DME) (2 ^ a) (2 ^ b)' Pairs chainedDme
+bend "29 left out of kind 9" Numbers.antt 'selfInheritance ∷ cycle' 'cycle' Staff ownJunior
+bend "30 by the row, without chains" Numbers.antt 'bit (reach d a) b' 'bit (d .row juniors a) b' Staff wideCycle
+bend "31 without seniors" Numbers.antt '(λ o. ownsRole d (role o) b)' '(eqb b)' Staff seniorGains
+bend "31 with the tasks of the junior alone, and not of those below it" Numbers.antt \
+    'false ↦ ownedTasks d (role a)' 'false ↦ d .row tasksOf a' Staff juniorBrings
+bend "32 of those who have the role itself" Numbers.antt '(λ o. ownsRole d (subject d o) b)' '(λ o. bit (subject d o) b)' Staff subjectGains
+bend "32 left out of kind 9" Numbers.antt 'taskAssignment juniors ∷ roleAssignment juniors' 'taskAssignment juniors' Staff subjectReaches
+bend "32 left out of kind 10" Numbers.antt 'roleConflicts = ownRoleAssignment ∷ []' 'roleConflicts = []' Staff ownRole
+bend "33 left out of kind 13" Numbers.antt 'heldSme c ∷ heldDme c ∷ []' 'heldDme c ∷ []' Orders heldSme
+bend "33 within the hand itself, as if nothing were held yet" Numbers.antt \
+    '(d .row SME) (heldBy d b c)' '(d .row SME) (subjectHand d a b)' Orders heldSme
+bend "34 left out of kind 13" Numbers.antt 'heldSme c ∷ heldDme c ∷ []' 'heldSme c ∷ []' Orders heldDme
+bend "34 of the task alone, without its subject group" Numbers.antt \
+    '(d .row DME) (heldBy d b c) (subjectHand d a b)' '(d .row DME) (heldBy d b c) (2 ^ a)' Orders heldDme
+bend "the role group without the mixed chain" Trade.antt 'group (mixed d SB RB) t' 'group (d .row RB) t' Pairs mixedChain
+bend "a role-bound task of a bound task that gets no role" Requests.antt \
+    'bitAnd (roleGroup d a) (d .row orders b)' 'bitAnd (subjectGroup d a) (d .row orders b)' Orders boundHands
+bend "a closed order that keeps its cells" Requests.antt \
+    'cell = λ q t. elim (eqb q p) [ true ↦ 0 | false ↦ d .cell q t ]' 'cell = d .cell' Orders closedOrder
+bend "4 where a task need not be defined" Requests.antt \
+    'fits d aTask v = ltb v 64 && bit (tasks d) v' 'fits d aTask v = ltb v 64' Guarded undefinedTask
+bend "7 left out of kinds 4 to 7" Numbers.antt '(givenLowest 7 (isOpen d) accepted)' 'accepted' Guarded whileOpen
+
+# ---- Checks too strong: a change is refused that breaks no rule
+
+bend "everything is refused" Numbers.antt 'firstOf [] d a b = accepted' 'firstOf [] d a b = say 20' Orders openedOrder
+bend "20 whatever the tasks are" Numbers.antt 'given (eqb a b) (say 20' 'given true (say 20' Pairs freeSme
+bend "25 and 26 of an owner of one of the two" Numbers.antt 'bit mine a && bit mine b' 'bit mine a || bit mine b' Pairs freeSme
+bend "24 asked of kind 5 too" Numbers.antt \
+    'selfConstraint ∷ alreadySme ∷ oneSubjectGroup ∷ []' 'selfConstraint ∷ alreadySme ∷ oneRoleGroup ∷ []' Pairs freeDme
+bend "21 asked of kind 6 too" Numbers.antt \
+    'rbConflicts = selfConstraint ∷ alreadySme' 'rbConflicts = selfConstraint ∷ alreadyDme' Pairs freeRb
+bend "28 of all that is DME to a's group" Numbers.antt \
+    '(d .row DME) (subjectGroup d a) (subjectGroup d b)' '(d .row DME) (subjectGroup d a) (2 ^ 64 - 1)' Pairs freeSb
+bend "31 of every role" Numbers.antt '(λ o. ownsRole d (role o) b)' '(λ o. true)' Staff freeTask
+bend "30 turned round" Numbers.antt 'bit (reach d a) b' 'bit (reach d b) a' Staff freeJunior
+bend "32 of tasks that are DME" Numbers.antt 'clash (d .row SME) gain' 'clash (d .row DME) gain' Staff freeRole
+bend "34 of tasks outside the order" Numbers.antt \
+    '(d .row DME) (heldBy d b c) (subjectHand d a b)' '(d .row DME) (heldBy d b c) (subjectGroup d a)' Orders outsideOrder
+bend "33 and 34 of what anybody holds" Numbers.antt \
+    'eqb (subjectIn (d .cell b t)) (suc c)' 'not (eqb (subjectIn (d .cell b t)) 0)' Orders othersHand
+
+# ---- The audit's rules
+
+bend "rule 1 left out" Audit.antt '∷ ofFour notOwn' '∷ (λ d x. true)' Pairs ownBinding
+bend "rule 2 left out" Audit.antt '∷ ofFour symmetric' '∷ (λ d x. true)' Guarded oneSided
+bend "rule 3 left out" Audit.antt '(λ d. apart (d .row SME) (d .row DME))' '(λ d x. true)' Pairs alsoSme
+bend "rule 4 in one subject group" Audit.antt '(d .row SME) (roleGroup d)' '(d .row SME) (subjectGroup d)' Pairs boundRoles
+bend "rule 5 in one role group" Audit.antt '(d .row DME) (subjectGroup d)' '(d .row DME) (roleGroup d)' Pairs freeDme
+bend "rule 6 left out" Audit.antt '(λ d. notOwn (reach d))' '(λ d x. true)' Staff wideCycle
+bend "rule 7 of subjects" Audit.antt 'ownerFree d role' 'ownerFree d (subject d)' Pairs roleOwns
+bend "rule 8 of roles" Audit.antt 'ownerFree d (subject d)' 'ownerFree d role' Pairs subjectOwns
+bend "rule 9 of DME pairs alone" Audit.antt 'implies (excludes d u v)' 'implies (bit (d .row DME u) v)' Orders heldSme
+bend "rule 9 of cells that nobody holds" Audit.antt ' || eqb (subjectIn (d .cell p u)) 0' '' Orders openedOrder
+bend "rule 10 with one S in a role group" Audit.antt 'implies (bit bySubject v)' 'implies (bit byRole v)' Orders boundHands
+
+# ---- Written another way
+
+same "20 with a test that adds nothing" Numbers.antt 'given (eqb a b) (say 20' 'given (eqb b a || false) (say 20' Pairs ownBinding
+same "25 and 26 with their two tests swapped" Numbers.antt 'bit mine a && bit mine b' 'bit mine b && bit mine a' Pairs roleOwns
+same "27 and 28 with their three tests in another order" Numbers.antt \
+    'bit xs u && (bit (rows u) v && bit ys v)' '(bit ys v && bit xs u) && bit (rows u) v' Pairs chainedSme
+same "31 and 32 with their two tests swapped" Numbers.antt \
+    'bit owned t && meet (sme t) gain' 'meet (sme t) gain && bit owned t' Staff seniorGains
+same "33 and 34 with the two sides swapped" Numbers.antt \
+    'eqb (subjectIn (d .cell b t)) (suc c)' 'eqb (suc c) (subjectIn (d .cell b t))' Orders heldDme
+same "the role group with its two tables swapped" Trade.antt 'group (mixed d SB RB) t' 'group (mixed d RB SB) t' Pairs mixedChain
+same "rule 3 with its two tables swapped" Audit.antt 'apart (d .row SME) (d .row DME)' 'apart (d .row DME) (d .row SME)' Pairs alsoDme
+same "rule 9 with a test that is always true" Audit.antt 'implies (excludes d u v)' 'implies (excludes d u v && true)' Orders heldSme
+
+wait
+for n in $(seq "$bent_count"); do
+    { read -r claim; read -r what; read -r trial; } <"$bent/$n.asked"
+    case $claim in
+    refuted) what="bent: $what. Demand 3 is refuted at the trial $trial" ;;
+    stands) what="another wording: $what. The trial $trial still holds" ;;
+    esac
+    holds "$what" bent_shown "$(cat "$bent/$n.told")"
+done
 rm -rf "$bent"
