@@ -3,7 +3,7 @@
 ghost use mathlib.Core.Path.{_≡_};
 ghost use Prim.Native.Nat.{_≤_, _<_};
 ghost use Rattle.sets.specs.Mask.{bit};
-ghost use Rattle.rules.specs.Book.{bookWords, headWords, tableCount, tableAt, placeOf, cellOf, roleIn, subjectIn};
+ghost use Rattle.rules.specs.Book.{bookWords, headWords, tableCount, tableAt, placeOf, cellBase, cellOf, roleIn, subjectIn};
 ghost use Rattle.book.specs.Slice.{tables, Full, Became, withHead, withRow, withCell, withMember, withoutMember};
 ghost use Rattle.book.specs.Places.{placed};
 
@@ -128,7 +128,7 @@ pub fn subject_in(cell: u64) -> u64
 
 // The cell with this role and this subject, each plus 1.
 pub fn cell_of(role: u64, subject: u64) -> u64
-    requires { ⌜ (role ≤ 64) × (subject < 128) ⌝ }
+    requires { ⌜ (role ≤ 64) × (subject < cellBase) ⌝ }
     ensures { λ v. ⌜ v ≡ cellOf role subject ⌝ }
 {
     CELL_BASE * role + subject

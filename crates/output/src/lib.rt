@@ -1,43 +1,142 @@
-// Text for standard output, gathered in a lent array and written when that is full.
+// Text for standard output, gathered on a lent array, the paper, and written when that is full or when it is asked for.
 //
-// Each function takes how much of the array is used, and answers how much is used then.
+// The paper is ROOM bytes, all 0 at first. Its first four bytes are its own: how much is used (two of them), whether what is put on it
+// stands inside a JSON string, and whether a write has failed.
+
+ghost use Prim.Native.Nat.{_≤_, _<_};
+
+// How large a paper is.
+pub const ROOM: usize = 4096;
+
+// Where the text begins.
+const START: usize = 4;
+
+const QUOTED: usize = 2;
+
+const FAILED: usize = 3;
+
+// Whether a byte of the paper's own is set.
+fn is_set(paper: &[u8], place: usize) -> bool {
+    place < paper.len() && paper[place] == 1
+}
+
+fn set(paper: &mut [u8], place: usize, to: u8) {
+    if place < paper.len() {
+        paper[place] = to;
+    }
+}
+
+fn wide(byte: u8) -> usize
+    ensures { λ r. ⌜ r < 256 ⌝ }
+{
+    byte as usize
+}
+
+// Where the text that was gathered ends; on a blank paper, where it begins.
+fn end(paper: &[u8]) -> usize
+    ensures { λ r. ⌜ (4 ≤ r) × (r < 65536) ⌝ }
+{
+    if paper.len() < START {
+        return START;
+    }
+    let used = wide(paper[0]) + 256 * wide(paper[1]);
+    if used < START { START } else { used }
+}
+
+fn set_end(paper: &mut [u8], to: usize) {
+    set(paper, 0, (to % 256) as u8);
+    set(paper, 1, (to / 256 % 256) as u8);
+}
+
+// Whether a write has failed.
+pub fn has_failed(paper: &[u8]) -> bool {
+    is_set(paper, FAILED)
+}
+
+// Writes the text up to `to`. After a write that failed nothing is written any more.
+fn write_to(paper: &mut [u8], to: usize) {
+    if START <= to && to <= paper.len() && !has_failed(paper) {
+        if !io::write_all(libc::STDOUT_FILENO, &paper[START..to]) {
+            set(paper, FAILED, 1);
+        }
+    }
+}
 
 // Writes what was gathered.
-pub fn flush(gathered: &[u8], used: usize) {
-    if used <= gathered.len() {
-        io::write_all(libc::STDOUT_FILENO, &gathered[..used]);
+pub fn flush(paper: &mut [u8]) {
+    let to = end(paper);
+    write_to(paper, to);
+    set_end(paper, START);
+}
+
+fn make_room(paper: &mut [u8]) {
+    if paper.len() <= end(paper) {
+        flush(paper);
+    }
+}
+
+// One byte more, as it is.
+fn put(paper: &mut [u8], byte: u8) {
+    make_room(paper);
+    let at = end(paper);
+    set(paper, at, byte);
+    set_end(paper, at + 1);
+}
+
+// From here on what is put on the paper stands inside a JSON string, or no longer does.
+pub fn quoted(paper: &mut [u8], on: bool) {
+    set(paper, QUOTED, if on { 1 } else { 0 });
+}
+
+fn hex_digit(n: u8) -> u8 {
+    let low = n % 16;
+    if low < 10 {
+        b'0' + low
+    } else {
+        b'a' + (low - 10)
+    }
+}
+
+// A byte inside a JSON string: what JSON would take otherwise, and what is no letter of ASCII, is written by its number.
+fn escaped(paper: &mut [u8], byte: u8) {
+    match byte {
+        b'"' | b'\\' => {
+            put(paper, b'\\');
+            put(paper, byte);
+        }
+        32..=126 => put(paper, byte),
+        _ => {
+            put(paper, b'\\');
+            put(paper, b'u');
+            put(paper, b'0');
+            put(paper, b'0');
+            put(paper, hex_digit(byte / 16));
+            put(paper, hex_digit(byte));
+        }
     }
 }
 
 // One byte more.
-pub fn byte(gathered: &mut [u8], used: usize, byte: u8) -> usize {
-    if used < gathered.len() {
-        gathered[used] = byte;
-        return used + 1;
+pub fn byte(paper: &mut [u8], byte: u8) {
+    if is_set(paper, QUOTED) {
+        escaped(paper, byte);
+    } else {
+        put(paper, byte);
     }
-    flush(gathered, used);
-    if 0 < gathered.len() {
-        gathered[0] = byte;
-        return 1;
-    }
-    0
 }
 
 // More bytes.
-pub fn bytes(gathered: &mut [u8], used: usize, text: &[u8]) -> usize {
-    let mut n = used;
+pub fn bytes(paper: &mut [u8], text: &[u8]) {
     let mut i: usize = 0;
     while i < text.len() {
-        n = byte(gathered, n, text[i]);
+        byte(paper, text[i]);
         i += 1;
     }
-    n
 }
 
-// A number in decimal, with a space before it.
-pub fn number(gathered: &mut [u8], used: usize, n: u64) -> usize {
+// A number in decimal.
+pub fn number(paper: &mut [u8], n: u64) {
     let mut digits = [0u8; 20];
     let count = io::decimal(n, &mut digits);
-    let spaced = byte(gathered, used, b' ');
-    bytes(gathered, spaced, &digits[..count])
+    bytes(paper, &digits[..count]);
 }

@@ -4,134 +4,98 @@
 //     r NUMBER X Y I V ..   to a request: its answer, then each word that it changed and what it became, index rising
 //     a NUMBER X Y          to an audit
 //     ? LINE                to a line that is no command to this book
+//
+// Where the input can't be read or the output can't be written, it stops and tells that on standard error and to the command
+// that runs it.
+mod doing;
 mod telling;
 
-use answers::Reply;
-use stream::Command;
+use doing::Outcome;
+ghost use Rattle.stream.specs.Stream.{commandOf};
+ghost use Rattle.replay.specs.Obeyed.{Carried};
 
-// How long the book is, and how much of the output is gathered.
-struct State {
-    length: usize,
-    used: usize,
-}
-
-// Makes every word 0.
-fn clear(words: &mut [u64]) {
-    let mut i: usize = 0;
-    while i < words.len() {
-        words[i] = 0;
-        i += 1;
-    }
-}
-
-// Makes a word the value; there may be no such word.
-fn store(words: &mut [u64], i: usize, value: u64) {
-    if i < words.len() {
-        words[i] = value;
-    }
-}
-
-// A request on the first `length` words.
-fn ask(book: &mut [u64], length: usize, kind: u64, a: u64, b: u64, c: u64) -> Reply {
-    if length <= book.len() {
-        return answers::told(desk::request(&mut book[..length], kind, a, b, c));
-    }
-    answers::told(answers::Answer::WrongLength)
-}
-
-// The audit of the first `length` words.
-fn inspect(book: &[u64], length: usize) -> Reply {
-    if length <= book.len() {
-        return answers::told_finding(audit::audit(&book[..length]));
-    }
-    answers::told_finding(answers::Finding::WrongLength)
-}
-
-// Ends a line of the output.
-fn ended(gathered: &mut [u8], length: usize, told: usize) -> State {
-    let used = output::byte(gathered, told, b'\n');
-    State { length, used }
-}
-
-// Carries out what a line says; `before` is the book as it was before.
+// Carries out what a line says and tells of it; `before` is the book as it was before. It answers how long the book is then.
 fn carry_out(
     book: &mut [u64],
     before: &mut [u64],
-    gathered: &mut [u8],
+    paper: &mut [u8],
     line: &[u8],
     whole: bool,
-    s: State,
-) -> State {
-    let length = s.length;
-    let used = s.used;
-    match stream::read(line, whole, length) {
-        Command::New(length) => {
-            clear(book);
-            clear(before);
-            State { length, used }
+    length: usize,
+) -> usize
+    ensures { λ r. ⌜ Carried (now (book .entry)) (now (book .exit)) length (commandOf (now (line .entry)) whole length) r ⌝ }
+{
+    match doing::obey(book, line, whole, length) {
+        Outcome::Cleared(new) => {
+            doing::clear(before);
+            return new;
         }
-        Command::Word(i, v) => {
-            store(book, i, v);
-            store(before, i, v);
-            s
+        Outcome::Put(i, v) => {
+            doing::store(before, i, v);
         }
-        Command::Request(kind, a, b, c) => {
-            let reply = ask(book, length, kind, a, b, c);
-            let told = telling::tell(gathered, used, b'r', reply);
-            let listed = telling::changes(book, before, gathered, told);
-            ended(gathered, length, listed)
+        Outcome::Answered(reply) => {
+            telling::tell(paper, b'r', reply);
+            telling::changes(book, before, paper);
+            output::byte(paper, b'\n');
         }
-        Command::Audit => {
-            let told = telling::tell(gathered, used, b'a', inspect(book, length));
-            ended(gathered, length, told)
+        Outcome::Audited(reply) => {
+            telling::tell(paper, b'a', reply);
+            output::byte(paper, b'\n');
         }
-        Command::Other => {
-            let told = telling::complain(gathered, used, line);
-            ended(gathered, length, told)
-        }
+        Outcome::Nothing => telling::complain(paper, line),
     }
+    length
 }
 
 // Carries out the line that was read, if there is one.
 fn serve(
     book: &mut [u64],
     before: &mut [u64],
-    gathered: &mut [u8],
+    paper: &mut [u8],
     text: &[u8],
     r: input::Reading,
-    s: State,
-) -> State {
+    length: usize,
+) -> usize {
     let held = r.held;
     if r.more && held <= text.len() {
-        return carry_out(book, before, gathered, &text[..held], r.whole, s);
+        return carry_out(book, before, paper, &text[..held], r.whole, length);
     }
-    s
+    length
 }
 
-// Plays the whole stream.
-fn play(
-    book: &mut [u64],
-    before: &mut [u64],
-    gathered: &mut [u8],
-    piece: &mut [u8],
-    text: &mut [u8],
-) {
-    let mut s = State { length: 0, used: 0 };
+// Tells how it went, where it did not go well.
+fn conclude(paper: &[u8], unread: bool) {
+    let unwritten = output::has_failed(paper);
+    if unread {
+        command::complain(b"replay: the input can't be read");
+    }
+    if unwritten {
+        command::complain(b"replay: the output can't be written");
+    }
+    if unread | unwritten {
+        command::end(command::BROKEN);
+    }
+}
+
+// Plays the whole stream, as far as it can be read and told.
+fn play(book: &mut [u64], before: &mut [u64], paper: &mut [u8], piece: &mut [u8], text: &mut [u8]) {
+    let mut length: usize = 0;
     let mut r = input::start();
     let mut turns: u64 = 18446744073709551615;
-    while turns > 0 && r.more {
+    while turns > 0 && r.more && !output::has_failed(paper) {
         r = input::next(piece, text, r);
-        s = serve(book, before, gathered, text, r, s);
+        length = serve(book, before, paper, text, r, length);
         turns -= 1;
     }
-    output::flush(gathered, s.used);
+    output::flush(paper);
+    conclude(paper, r.failed);
 }
 
 fn main() {
     let mut book = [0u64; stream::LONGEST];
     let mut before = [0u64; stream::LONGEST];
-    let mut gathered = [0u8; 4096];
+    let mut paper = [0u8; output::ROOM];
     let mut piece = [0u8; 4096];
     let mut text = [0u8; 256];
-    play(&mut book, &mut before, &mut gathered, &mut piece, &mut text);
+    play(&mut book, &mut before, &mut paper, &mut piece, &mut text);
 }

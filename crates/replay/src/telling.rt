@@ -1,40 +1,43 @@
 // What is told of a stream: answers, the words that changed, and lines that are no command.
-// As in crate output, each function answers how much of `gathered` is used then.
 use answers::Reply;
 
+// A number with a space before it.
+fn spaced(paper: &mut [u8], n: u64) {
+    output::byte(paper, b' ');
+    output::number(paper, n);
+}
+
 // Tells an answer: its name, number, x and y.
-pub fn tell(gathered: &mut [u8], used: usize, name: u8, reply: Reply) -> usize {
-    let mut n = output::byte(gathered, used, name);
-    n = output::number(gathered, n, reply.number);
-    n = output::number(gathered, n, reply.x);
-    output::number(gathered, n, reply.y)
+pub fn tell(paper: &mut [u8], name: u8, reply: Reply) {
+    output::byte(paper, name);
+    spaced(paper, reply.number);
+    spaced(paper, reply.x);
+    spaced(paper, reply.y);
 }
 
 // Tells of word i, if it is no longer what it was, and takes it over.
-fn change(before: &mut [u64], gathered: &mut [u8], used: usize, i: usize, word: u64) -> usize {
+fn change(before: &mut [u64], paper: &mut [u8], i: usize, word: u64) {
     if i < before.len() {
         if before[i] != word {
             before[i] = word;
-            let n = output::number(gathered, used, i as u64);
-            return output::number(gathered, n, word);
+            spaced(paper, i as u64);
+            spaced(paper, word);
         }
     }
-    used
 }
 
 // Tells of each word that is no longer what it was, and takes it over.
-pub fn changes(book: &[u64], before: &mut [u64], gathered: &mut [u8], used: usize) -> usize {
-    let mut n = used;
+pub fn changes(book: &[u64], before: &mut [u64], paper: &mut [u8]) {
     let mut i: usize = 0;
     while i < book.len() {
-        n = change(before, gathered, n, i, book[i]);
+        change(before, paper, i, book[i]);
         i += 1;
     }
-    n
 }
 
 // Tells a line as it came.
-pub fn complain(gathered: &mut [u8], used: usize, line: &[u8]) -> usize {
-    let marked = output::bytes(gathered, used, b"? ");
-    output::bytes(gathered, marked, line)
+pub fn complain(paper: &mut [u8], line: &[u8]) {
+    output::bytes(paper, b"? ");
+    output::bytes(paper, line);
+    output::byte(paper, b'\n');
 }

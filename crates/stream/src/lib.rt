@@ -5,10 +5,13 @@
 //     r K A B C    a request
 //     a            the audit
 //
-// The fields are parted by one space each; numbers are decimal and below 2^64.
+// The fields are parted by one space each; numbers are decimal and below 2^64. specs/Stream.antt says it as a definition that computes,
+// and `read` is proved to give what that gives.
+ghost use mathlib.Core.Path.{_≡_};
 ghost use Prim.Native.Nat.{_≤_};
 ghost use lib.ListN.{length};
-ghost use Rattle.stream.specs.Field.{Field};
+ghost use Rattle.stream.specs.Stream.{fieldsPast, newBook, setWord, request, ended, named, commandOf, Ends, Starts};
+ghost use Rattle.stream.specs.declared.Command.the-variants.{Audit};
 
 // The longest book.
 pub const LONGEST: usize = 4700;
@@ -22,10 +25,17 @@ pub enum Command {
     Other,
 }
 
+// What was read of a field: whether it writes a number, which, and where the field ends.
+struct Field {
+    is: bool,
+    value: u64,
+    end: usize,
+}
+
 // Where the field that starts at `from` ends: before the next space, or with the line.
 fn field_end(line: &[u8], from: usize) -> usize
     requires { ⌜ from ≤ length (now line) ⌝ }
-    ensures { λ r. ⌜ Field (now (line .entry)) from r ⌝ }
+    ensures { λ r. ⌜ Ends (now (line .entry)) from r ⌝ }
 {
     let mut i = from;
     while i < line.len() {
@@ -37,53 +47,122 @@ fn field_end(line: &[u8], from: usize) -> usize
     i
 }
 
-// The command of that name, where it takes as many numbers as there are, and these.
-fn named(name: u8, count: usize, numbers: [u64; 4], length: usize) -> Command {
-    let first = numbers[0] as usize;
-    if (name == b'n') & (count == 1) & (first <= LONGEST) {
-        return Command::New(first);
+// The number in the field behind the space at `at`; there is none where the line ends there.
+fn number(line: &[u8], at: usize) -> Field
+    ensures { λ r. ⌜ Starts (fieldsPast (now (line .entry)) at) (now (line .entry)) r ⌝ }
+{
+    if line.len() <= at {
+        return Field {
+            is: false,
+            value: 0,
+            end: at,
+        };
     }
-    if (name == b'w') & (count == 2) & (first < length) {
-        return Command::Word(first, numbers[1]);
+    let start = at + 1;
+    let end = field_end(line, start);
+    if start == end {
+        return Field {
+            is: false,
+            value: 0,
+            end,
+        };
     }
-    if (name == b'r') & (count == 4) {
-        return Command::Request(numbers[0], numbers[1], numbers[2], numbers[3]);
+    match decimal::read(&line[start..end]) {
+        decimal::Number::Is(value) => Field {
+            is: true,
+            value,
+            end,
+        },
+        decimal::Number::TooLarge => Field {
+            is: false,
+            value: 0,
+            end,
+        },
+        decimal::Number::NotDecimal => Field {
+            is: false,
+            value: 0,
+            end,
+        },
     }
-    if (name == b'a') & (count == 0) {
+}
+
+// A new book, of as many words as the one number says.
+fn new_book(line: &[u8]) -> Command
+    ensures { λ r. ⌜ r ≡ newBook (fieldsPast (now (line .entry)) 1) ⌝ }
+{
+    let size = number(line, 1);
+    let words = size.value as usize;
+    if size.is & (line.len() <= size.end) & (words <= LONGEST) {
+        return Command::New(words);
+    }
+    Command::Other
+}
+
+// A word of the book and its value.
+fn set_word(line: &[u8], length: usize) -> Command
+    ensures { λ r. ⌜ r ≡ setWord (fieldsPast (now (line .entry)) 1) length ⌝ }
+{
+    let place = number(line, 1);
+    let value = number(line, place.end);
+    let i = place.value as usize;
+    if place.is & value.is & (line.len() <= value.end) & (i < length) {
+        return Command::Word(i, value.value);
+    }
+    Command::Other
+}
+
+// A request: its kind and its three numbers.
+fn request(line: &[u8]) -> Command
+    ensures { λ r. ⌜ r ≡ request (fieldsPast (now (line .entry)) 1) ⌝ }
+{
+    let kind = number(line, 1);
+    let a = number(line, kind.end);
+    let b = number(line, a.end);
+    let c = number(line, b.end);
+    if kind.is & a.is & b.is & c.is & (line.len() <= c.end) {
+        return Command::Request(kind.value, a.value, b.value, c.value);
+    }
+    Command::Other
+}
+
+// The audit, which has no numbers.
+fn audit(line: &[u8]) -> Command
+    ensures { λ r. ⌜ r ≡ ended (fieldsPast (now (line .entry)) 1) Audit ⌝ }
+{
+    if line.len() <= 1 {
         return Command::Audit;
     }
     Command::Other
 }
 
+// The command of that name; its fields stand behind the space at 1.
+fn named(line: &[u8], name: u8, length: usize) -> Command
+    ensures { λ r. ⌜ r ≡ named name (fieldsPast (now (line .entry)) 1) length ⌝ }
+{
+    match name {
+        b'n' => new_book(line),
+        b'w' => set_word(line, length),
+        b'r' => request(line),
+        b'a' => audit(line),
+        _ => Command::Other,
+    }
+}
+
 // What the line says to a book of `length` words; it is not whole where it went on past the last byte here.
-pub fn read(line: &[u8], whole: bool, length: usize) -> Command {
-    if line.len() == 0 || !whole {
+pub fn read(line: &[u8], whole: bool, length: usize) -> Command
+    ensures { λ r. ⌜ r ≡ commandOf (now (line .entry)) whole length ⌝ }
+{
+    if !whole {
         return Command::Other;
     }
-    let name = line[0];
-    let mut numbers = [0u64; 4];
-    let mut at: usize = 1;
-    for n in 0..4usize {
-        if line.len() <= at {
-            return named(name, n, numbers, length);
-        }
-        let start = at + 1;
-        let end = field_end(line, start);
-        if (line[at] != b' ') | (start == end) {
-            return Command::Other;
-        }
-        match decimal::read(&line[start..end]) {
-            decimal::Number::Is(v) => {
-                numbers[n] = v;
-            }
-            _ => {
-                return Command::Other;
-            }
-        }
-        at = end;
-    }
-    if at < line.len() {
+    if line.len() == 0 {
         return Command::Other;
     }
-    named(name, 4, numbers, length)
+    if line.len() == 1 {
+        return named(line, line[0], length);
+    }
+    if line[1] != b' ' {
+        return Command::Other;
+    }
+    named(line, line[0], length)
 }

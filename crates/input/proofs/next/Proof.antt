@@ -2,12 +2,13 @@
 use mathlib.Core.Path.{_≡_}
 use Prim.Native.Nat.{_≤_}
 use lib.ListN.{length}
+use Rattle.input.specs.Lines.{NoLine}
 use borrow.Author.Needs.{needs}
 use Rattle.input.proofs.next.Statement.{statement}
 use Rattle.input.proofs.next.Tie as tie
 
 abbrev Inv-loop : tie.InvT-loop
-Inv-loop piece₀ text₀ r₀ turns₀ piece text r turns = (length piece ≡ length piece₀) × (length text ≡ length text₀) × (r .held ≤ length text)
+Inv-loop piece₀ text₀ r₀ turns₀ piece text r turns = (length piece ≡ length piece₀) × (length text ≡ length text₀) × (r .held ≤ length text) × NoLine r
 
 abbrev μ-loop : tie.MeasureT-loop
 μ-loop piece₀ text₀ r₀ turns₀ piece text r turns = turns

@@ -1,4 +1,4 @@
--- The loop goes along the text; the array keeps its length.
+-- The loop goes along the text; the paper keeps its length.
 use mathlib.Core.Path.{_≡_}
 use Prim.Native.Nat.{_≤_, _-_}
 use lib.ListN.{length}
@@ -7,10 +7,10 @@ use Rattle.output.proofs.bytes.Statement.{statement}
 use Rattle.output.proofs.bytes.Tie as tie
 
 abbrev Inv-loop : tie.InvT-loop
-Inv-loop gathered₀ used text n₀ i₀ gathered n i = (i ≤ length text) × (length gathered ≡ length gathered₀)
+Inv-loop paper₀ text i₀ paper i = (i ≤ length text) × (length paper ≡ length paper₀)
 
 abbrev μ-loop : tie.MeasureT-loop
-μ-loop gathered₀ used text n₀ i₀ gathered n i = length text - i
+μ-loop paper₀ text i₀ paper i = length text - i
 
 loop-holds : tie.Need-loop-holds Inv-loop μ-loop
 loop-holds c = search needs

@@ -1,26 +1,29 @@
 -- The turns left fall; every array keeps its length.
 use mathlib.Core.Path.{_≡_}
-use lib.ListN.{length}
+use lib.ListN as list
 use borrow.Author.Needs.{needs}
 use Rattle.replay.proofs.play.Statement.{statement}
 use Rattle.replay.proofs.play.Tie as tie
 
 abbrev Inv-loop : tie.InvT-loop
-Inv-loop book₀ before₀ gathered₀ piece₀ text₀ s₀ r₀ turns₀ book before gathered piece text s r turns =
-    (length book ≡ length book₀)
-    × (length before ≡ length before₀)
-    × (length gathered ≡ length gathered₀)
-    × (length piece ≡ length piece₀)
-    × (length text ≡ length text₀)
+Inv-loop book₀ before₀ paper₀ piece₀ text₀ length₀ r₀ turns₀ book before paper piece text length r turns =
+    (list.length book ≡ list.length book₀)
+    × (list.length before ≡ list.length before₀)
+    × (list.length paper ≡ list.length paper₀)
+    × (list.length piece ≡ list.length piece₀)
+    × (list.length text ≡ list.length text₀)
 
 abbrev μ-loop : tie.MeasureT-loop
-μ-loop book₀ before₀ gathered₀ piece₀ text₀ s₀ r₀ turns₀ book before gathered piece text s r turns = turns
+μ-loop book₀ before₀ paper₀ piece₀ text₀ length₀ r₀ turns₀ book before paper piece text length r turns = turns
 
 start-requires : tie.Need-start-requires Inv-loop μ-loop
 start-requires c κs = search needs
 
 loop-holds : tie.Need-loop-holds Inv-loop μ-loop
 loop-holds c = search needs
+
+has-failed-requires : tie.Need-has-failed-requires Inv-loop μ-loop
+has-failed-requires c κs = search needs
 
 next-requires : tie.Need-next-requires Inv-loop μ-loop
 next-requires c κs = search needs
@@ -39,6 +42,9 @@ loop-again c = search needs
 
 flush-requires : tie.Need-flush-requires Inv-loop μ-loop
 flush-requires c κs = search needs
+
+conclude-requires : tie.Need-conclude-requires Inv-loop μ-loop
+conclude-requires c κs = search needs
 
 same-length : tie.Need-same-length Inv-loop μ-loop
 same-length c = search needs
@@ -66,12 +72,14 @@ play-spec =
     μ-loop
     start-requires
     loop-holds
+    has-failed-requires
     next-requires
     serve-requires
     sub-turns
     loop-less
     loop-again
     flush-requires
+    conclude-requires
     same-length
     same-length-2
     same-length-3

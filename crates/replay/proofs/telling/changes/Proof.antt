@@ -1,4 +1,4 @@
--- The loop goes along the book; what is told last and the output keep their lengths.
+-- The loop goes along the book; what is told last and the paper keep their lengths.
 use mathlib.Core.Path.{_≡_}
 use Prim.Native.Nat.{_≤_, _-_}
 use lib.ListN.{length}
@@ -7,10 +7,10 @@ use Rattle.replay.proofs.telling.changes.Statement.{statement}
 use Rattle.replay.proofs.telling.changes.Tie as tie
 
 abbrev Inv-loop : tie.InvT-loop
-Inv-loop book before₀ gathered₀ used n₀ i₀ before gathered n i = (i ≤ length book) × (length before ≡ length before₀) × (length gathered ≡ length gathered₀)
+Inv-loop book before₀ paper₀ i₀ before paper i = (i ≤ length book) × (length before ≡ length before₀) × (length paper ≡ length paper₀)
 
 abbrev μ-loop : tie.MeasureT-loop
-μ-loop book before₀ gathered₀ used n₀ i₀ before gathered n i = length book - i
+μ-loop book before₀ paper₀ i₀ before paper i = length book - i
 
 loop-holds : tie.Need-loop-holds Inv-loop μ-loop
 loop-holds c = search needs

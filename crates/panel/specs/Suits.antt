@@ -1,0 +1,29 @@
+-- What the panel takes as the arguments of each kind is what document 01's one fixed table asks of them.
+use mathlib.Core.Path.{_≡_}
+use mathlib.Core.Bool.{Bool, true, _&&_}
+use Prim.Native.Nat.{ℕ, _+_}
+use lib.Dec.{eqb, ltb}
+use Rattle.sets.specs.Search.{all}
+use Rattle.rules.specs.Requests.{Needs, unused, inRange, aTask, aRole, aSubject, anOpenOrder, aTaskMask, rowOf}
+use Rattle.typed.specs.Arguments as typed
+
+-- a sort of argument suits what the table asks; where it asks for any number in range, for a thing that need not be there yet
+unfoldable pub suits : Needs → ℕ → Bool
+suits unused sort = eqb sort typed.unused
+suits inRange sort = ltb sort typed.unused
+suits aTask sort = eqb sort typed.task
+suits aRole sort = eqb sort typed.role
+suits aSubject sort = eqb sort typed.person
+suits anOpenOrder sort = eqb sort typed.order
+suits aTaskMask sort = eqb sort typed.mask
+
+-- all three arguments of a kind suit
+unfoldable pub kindSuits : ℕ → Bool
+kindSuits kind =
+    suits (rowOf kind .a) (typed.wanted typed.firsts kind)
+    && suits (rowOf kind .b) (typed.wanted typed.seconds kind)
+    && suits (rowOf kind .c) (typed.wanted typed.thirds kind)
+
+-- Those of kinds 1 to 17 do. proofs/EachSuits.antt computes it.
+abbrev pub EachSuits : Type 0
+EachSuits = all 17 (λ i. kindSuits (i + 1)) ≡ true

@@ -1,0 +1,137 @@
+// Answers as JSON: one object to a line. Text stands in it between opened and closed, where the paper writes each byte so that nothing
+// can break the line.
+use crate::called;
+use crate::sentence::Named;
+use crate::wanted;
+
+// A field that is a number, with what stands before it.
+pub fn number(paper: &mut [u8], before: &[u8], n: u64) {
+    output::bytes(paper, before);
+    output::number(paper, n);
+}
+
+// A field that is true or false.
+fn flag(paper: &mut [u8], before: &[u8], is: bool) {
+    output::bytes(paper, before);
+    if is {
+        output::bytes(paper, b"true");
+    } else {
+        output::bytes(paper, b"false");
+    }
+}
+
+// From here on everything written is inside a string ..
+pub fn opened(paper: &mut [u8], before: &[u8]) {
+    output::bytes(paper, before);
+    output::quoted(paper, true);
+}
+
+// .. up to here, where the object ends.
+pub fn closed(paper: &mut [u8]) {
+    output::quoted(paper, false);
+    output::bytes(paper, b"\"}\n");
+}
+
+// The word of a row, between two ".
+fn quoted_row(paper: &mut [u8], row: u64) {
+    output::byte(paper, b'"');
+    manual::row(paper, row);
+    output::byte(paper, b'"');
+}
+
+// The word of a row that names the kinds in their order; null where it is none.
+fn row_or_null(paper: &mut [u8], row: u64) {
+    if row == vocabulary::KINDS {
+        output::bytes(paper, b"null");
+    } else if row < vocabulary::ROWS {
+        quoted_row(paper, row);
+    } else {
+        output::bytes(paper, b"null");
+    }
+}
+
+// The word of a kind; null where it is none.
+fn word(paper: &mut [u8], kind: u64) {
+    output::bytes(paper, b",\"word\":");
+    if kind < vocabulary::ROWS {
+        row_or_null(paper, vocabulary::KINDS + kind);
+    } else {
+        output::bytes(paper, b"null");
+    }
+}
+
+// What parts a name from those before it.
+fn comma(paper: &mut [u8], wanted: bool) {
+    if wanted {
+        output::byte(paper, b',');
+    }
+}
+
+// The name of the number that a letter stands for, if it has one; tells whether any has been written by now.
+fn name(paper: &mut [u8], names: &[u8], letter: u8, sort: u64, n: u64, before: bool) -> bool {
+    if labels::length_of(names, sort, n) == 0 {
+        return before;
+    }
+    comma(paper, before);
+    output::byte(paper, b'"');
+    output::byte(paper, letter);
+    output::bytes(paper, b"\":\"");
+    called::name(paper, names, sort, n);
+    output::byte(paper, b'"');
+    true
+}
+
+// The names of the request's things; tells whether there are any.
+fn request_names(paper: &mut [u8], names: &[u8], v: Named) -> bool {
+    let one = name(paper, names, b'a', typed::first_of(v.kind), v.a, false);
+    let two = name(paper, names, b'b', typed::second_of(v.kind), v.b, one);
+    name(paper, names, b'c', typed::third_of(v.kind), v.c, two)
+}
+
+// The names of the answer's things.
+fn answer_names(paper: &mut [u8], names: &[u8], number: u64, v: Named, before: bool) {
+    let one = name(paper, names, b'x', wanted::x_of(number), v.x, before);
+    name(paper, names, b'y', wanted::y_of(number), v.y, one);
+}
+
+// The names of the request's things and the answer's.
+fn all_names(paper: &mut [u8], names: &[u8], number: u64, v: Named) {
+    output::bytes(paper, b",\"names\":{");
+    let some = request_names(paper, names, v);
+    answer_names(paper, names, number, v, some);
+    output::bytes(paper, b"}");
+}
+
+// The request's numbers, and the answer's.
+fn numbers(paper: &mut [u8], answer: u64, v: Named) {
+    number(paper, b",\"a\":", v.a);
+    number(paper, b",\"b\":", v.b);
+    number(paper, b",\"c\":", v.c);
+    reply(paper, answer, v.x, v.y);
+}
+
+// The numbers of an answer.
+pub fn reply(paper: &mut [u8], answer: u64, x: u64, y: u64) {
+    number(paper, b",\"number\":", answer);
+    number(paper, b",\"x\":", x);
+    number(paper, b",\"y\":", y);
+}
+
+// An answer up to its text.
+pub fn answer(
+    paper: &mut [u8],
+    names: &[u8],
+    line: u64,
+    number_of_answer: u64,
+    v: Named,
+    tried: bool,
+) {
+    number(paper, b"{\"line\":", line);
+    number(paper, b",\"kind\":", v.kind);
+    word(paper, v.kind);
+    numbers(paper, number_of_answer, v);
+    flag(paper, b",\"accepted\":", number_of_answer == 0);
+    flag(paper, b",\"tried\":", tried);
+    all_names(paper, names, number_of_answer, v);
+    opened(paper, b",\"text\":\"");
+}

@@ -1,0 +1,3 @@
+pub mod Words
+pub mod Arguments
+pub mod Grammar
