@@ -1,6 +1,8 @@
 # The run agreement: the proved engine, run by the program replay, and the independent program in witness/ get the same
-# stream of cases, and each answer and each changed word has to be the same. Sourced by .ci/run at the top of the repository.
+# stream of cases, and each answer and each changed word has to be the same. Sourced by .ci/run, or called alone.
 # The stream is a new one each time; TOWERPLANK_SEED=N plays that of seed N again.
+type holds >/dev/null 2>&1 || . "$(dirname "${BASH_SOURCE[0]}")/alone"
+built replay
 
 agree_seed=${TOWERPLANK_SEED:-$(date +%s)}
 agree_count=20000

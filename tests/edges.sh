@@ -1,4 +1,6 @@
-# Document 01's "Edges to run as tests", each with the answer that the document gives. Sourced by .ci/run.
+# Document 01's "Edges to run as tests", each with the answer that the document gives. Sourced by .ci/run, or called alone.
+type holds >/dev/null 2>&1 || . "$(dirname "${BASH_SOURCE[0]}")/alone"
+built replay
 
 edge() { # SENTENCE STREAM EXPECTED: the engine answers the stream so
     holds "$1" test "$(printf '%b' "$2" | tools/run-program target/bin/replay)" = "$(printf '%b' "$3")"
@@ -25,4 +27,5 @@ for kind in 1 2 3 4 5 6 7 8 9 10 11 12 13 14 15 16 17; do
     told="${told}r 4 1 0\n"
 done
 edge "the largest u64 as every argument is refused" "n 4676\n${every}r $most $most $most $most\na\n" "${told}r 3 0 0\na 0 0 0"
-edge "the largest u64 as an unused argument changes nothing" "n 4676\nr 1 0 $most $most\nr 1 1 0 0\nr 7 0 1 $most\n" 'r 0 0 0 0 1\nr 0 0 0 0 3\nr 0 0 0 196 2 197 1'
+edge "the largest u64 as an unused argument changes nothing" \
+    "n 4676\nr 1 0 $most $most\nr 1 1 0 0\nr 7 0 1 $most\n" 'r 0 0 0 0 1\nr 0 0 0 0 3\nr 0 0 0 196 2 197 1'

@@ -18,16 +18,25 @@ leaves_room() {
     [ -n "$stack" ] && [ -n "$deepest" ] && [ "$deepest" -le $((stack / 4 * 3)) ] || { echo "$deepest of $stack bytes"; return 1; }
 }
 
-# A function that does what the library must not: each of its sins has to be seen.
-sees_greed() {
+look_at() { # NAME FLAGS..: what tools/machine-code tells of tests/c/NAME.c
+    name=$1
+    shift
     toolchain=$(dirname "$(dirname "$(rt doc)")")/on/$(uname -m)/toolchain/bin
-    "$toolchain/clang" --target=x86_64-unknown-linux-gnu -O3 -mavx2 -nostdinc -isystem tools/c -c -o "$room/greedy.o" tests/c/greedy.c &&
-        "$toolchain/llvm-ar" rcs "$room/greedy.a" "$room/greedy.o" && tools/machine-code "$room/greedy.a" >"$room/greed" || return 1
+    "$toolchain/clang" --target=x86_64-unknown-linux-gnu -O3 "$@" -nostdinc -isystem tools/c -c -o "$room/$name.o" "tests/c/$name.c" &&
+        "$toolchain/llvm-ar" rcs "$room/$name.a" "$room/$name.o" && tools/machine-code "$room/$name.a"
+}
+
+# A function that does what the library must not: each of its sins has to be seen. Its frame is what the red zone has, and its return.
+sees_greed() {
+    look_at greedy -mavx2 >"$room/greed" || return 1
+    grep -qx 'deepest stack of greedy: 136 bytes' "$room/greed" || { grep 'deepest' "$room/greed"; return 1; }
     for clean in 'variables outside the stack: none' 'AVX, x87 and MMX registers: none' 'instructions that not every x86-64 has: none' \
         'system calls, segments, privileged instructions: none' 'red zone: not used'; do
         grep -q "^${clean%%:*}:" "$room/greed" && ! grep -qx "$clean" "$room/greed" || { echo "not seen: $clean"; return 1; }
     done
 }
+
+sees_no_red_zone() { look_at counted >"$room/counted" && grep -qx 'red zone: not used' "$room/counted"; }
 
 if [ "$looked" -eq 3 ]; then
     echo "not looked at: the library's machine code"
@@ -45,5 +54,6 @@ else
     holds "the library takes nothing from outside but memset" says 'taken from outside: memset'
     holds "the frames of a call fit TOWERPLANK_STACK, and a quarter is left" leaves_room
     holds "a function that does all that is seen to" sees_greed
+    holds "a row of the frame, counted from above 0, is taken for no red zone" sees_no_red_zone
 fi
 rm -rf "$room"

@@ -1,4 +1,6 @@
-# The worked shifts: each is played at the panel, and what it prints is what stands beside it.
+# The worked shifts: each is played at the panel, and what it prints is what stands beside it. Sourced by .ci/run, or called alone.
+type holds >/dev/null 2>&1 || . "$(dirname "${BASH_SOURCE[0]}")/alone"
+built panel
 
 for shift in shifts/*.txt; do
     tools/run-program target/bin/panel <"$shift" >target/printed

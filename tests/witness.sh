@@ -1,8 +1,9 @@
 # The independent program: its own tests, counted one by one, and that its cases reach every answer there is.
-# Sourced by .ci/run at the top of the repository.
+# Sourced by .ci/run, or called alone.
+type holds >/dev/null 2>&1 || . "$(dirname "${BASH_SOURCE[0]}")/alone"
 
 own_tests() { # LOG: runs them and adds each to the count
-    CARGO_TARGET_DIR=target/witness cargo test --release --offline --manifest-path witness/Cargo.toml >"$1" 2>&1
+    CARGO_TARGET_DIR=target/witness cargo test --release --offline --locked --manifest-path witness/Cargo.toml >"$1" 2>&1
     own_ended=$?
     # Each file of tests ends with a line 'test result: ok. 7 passed; 0 failed; ..'.
     own_passed=$(sed -n 's/^test result:.* \([0-9]*\) passed;.*/\1/p' "$1" | awk '{ sum += $1 } END { print sum + 0 }')
