@@ -155,6 +155,9 @@ says "blanks, tabs, carriage returns and comments part words or end the line" '\
     '1: 0 0 0  accepted: task 0 is defined\n4: 0 0 0  accepted: task 1 is defined'
 
 says "an unknown word is told with the nearest" 'alocate 0 0 0' "1: no request: 'alocate' is no kind of request; did you mean allocate?"
+says "help on a word that the panel does not know" 'help alocate\nhelp 13' \
+    "1: no request: 'alocate' is no word of the panel; did you mean allocate?\n2: no request: '13' is no word of the panel"
+says "a word of the panel is not offered in its own place" 'try show' "1: no request: 'show' is no kind of request"
 says "nothing is offered where nothing is near" 'frobnicate' "1: no request: 'frobnicate' is no kind of request"
 
 # Names, in all four sorts: before the thing is there, given anew, by the old name, taken, unknown, none.
@@ -183,7 +186,7 @@ for sort in task role person order; do
 7: no request: word 3 is no $sort's number: 0 to 63\n8: no request: word 4 is missing"
 done
 says "subject is another word for person" 'name subject 0 otto\nname person otto ida\nshow subject ida' \
-    '1: person 0 is called otto\n2: person 0 is called ida\n3: there is no person 0'
+    '1: person 0 is called otto\n2: person 0 is called ida\n3: there is no person 0 (ida)'
 
 says "open takes tasks one by one, or a mask" 'define-task 0\ndefine-task 2\nopen 0 tasks 2 0 2\nopen 1 5' \
     '1: 0 0 0  accepted: task 0 is defined\n2: 0 0 0  accepted: task 2 is defined
@@ -204,10 +207,11 @@ lists_every_word() {
 }
 holds "help lists every word, and tells of each" lists_every_word
 
-shows_one() { # SORT HEAD
+shows_one() { # SORT
+    case $1 in order) none='order %s is not open' ;; *) none="there is no $1 %s" ;; esac
     printf 'define-task 0\ndefine-role 0\ndefine-person 0\nopen 0 1\nshow %s 0\nshow %s 7\nshow %s 18446744073709551615\n' "$1" "$1" "$1" |
-        panel >"$room/out" && grep -q "^5: $1 0" "$room/out" && grep -qx "6: there is no $1 7" "$room/out" &&
-        grep -qx "7: there is no $1 18446744073709551615" "$room/out"
+        panel >"$room/out" && grep -q "^5: $1 0" "$room/out" && grep -qx "6: $(printf "$none" 7)" "$room/out" &&
+        grep -qx "7: $(printf "$none" 18446744073709551615)" "$room/out"
 }
 for sort in task role person order; do holds "show $sort tells of one, and of none" shows_one $sort; done
 
