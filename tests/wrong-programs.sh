@@ -5,4 +5,4 @@
 type holds >/dev/null 2>&1 || . "$(dirname "${BASH_SOURCE[0]}")/alone"
 
 wrong_seed=$(cat crates/*/src/*.rt | sha256sum | cut -c 1-8)
-holds "wrong programs drawn by seed $wrong_seed are refused" tests/wrong-programs --sample "$wrong_seed" 16
+holds "wrong programs drawn by seed $wrong_seed are refused" tests/wrong-programs --sample "$wrong_seed" 10
