@@ -7,130 +7,48 @@ pub use near::suggest;
 // How many words are no kind.
 const OWN: u64 = 6;
 
-// The line of a word: its kind and arguments, and what it does. First the kinds that define and relate ..
-fn line_of_rules(paper: &mut [u8], kind: u64) {
-    match kind {
-        1 => output::bytes(
-            paper,
-            b"   1  define-task TASK                define a task\n",
-        ),
-        2 => output::bytes(
-            paper,
-            b"   2  define-role ROLE                define a role\n",
-        ),
-        3 => output::bytes(
-            paper,
-            b"   3  define-subject PERSON           define a person; also define-person\n",
-        ),
-        4 => output::bytes(
-            paper,
-            b"   4  sme TASK TASK                   nobody may own both; also exclude-static\n",
-        ),
-        5 => output::bytes(
-            paper,
-            b"   5  dme TASK TASK                   nobody may do both in one order; also exclude-dynamic\n",
-        ),
-        6 => output::bytes(
-            paper,
-            b"   6  rb TASK TASK                    in one order both are done in one role; also bind-role\n",
-        ),
-        _ => output::bytes(
-            paper,
-            b"   7  sb TASK TASK                    in one order both are done by one person; also bind-subject\n",
-        ),
-    }
-}
-
-// .. those that say who may do what ..
-fn line_of_staff(paper: &mut [u8], kind: u64) {
-    match kind {
-        8 => output::bytes(
-            paper,
-            b"   8  assign-task TASK ROLE           the role gets the task\n",
-        ),
-        9 => output::bytes(
-            paper,
-            b"   9  junior JUNIOR SENIOR            the senior role owns the junior role's tasks too\n",
-        ),
-        10 => output::bytes(
-            paper,
-            b"  10  assign-role ROLE PERSON         the person gets the role\n",
-        ),
-        11 => output::bytes(
-            paper,
-            b"  11  activate ROLE PERSON            the person acts in the role from now on\n",
-        ),
-        15 => output::bytes(
-            paper,
-            b"  15  take-task TASK ROLE             the role has the task no more\n",
-        ),
-        16 => output::bytes(
-            paper,
-            b"  16  take-junior JUNIOR SENIOR       the one role is no junior of the other any more\n",
-        ),
-        _ => output::bytes(
-            paper,
-            b"  17  take-role ROLE PERSON           the person has the role no more\n",
-        ),
-    }
-}
-
-// .. those of orders ..
-fn line_of_orders(paper: &mut [u8], kind: u64) {
-    match kind {
-        12 => output::bytes(
-            paper,
-            b"  12  open ORDER tasks TASK TASK ..   open an order with these tasks; also open ORDER MASK\n",
-        ),
-        13 => output::bytes(
-            paper,
-            b"  13  allocate TASK ORDER PERSON      the person does the task in the order\n",
-        ),
-        _ => output::bytes(
-            paper,
-            b"  14  close ORDER                     the order is done, and its hands are forgotten\n",
-        ),
-    }
-}
-
-// .. and the words that are no kind.
-fn line_of_panel(paper: &mut [u8], row: u64) {
-    match row {
-        vocabulary::SHOW => output::bytes(
-            paper,
-            b"      show                            the whole book as tables\n      show SORT THING                 all about one thing\n",
-        ),
-        vocabulary::AUDIT => output::bytes(
-            paper,
-            b"      audit                           do all ten rules hold in the book?\n",
-        ),
-        vocabulary::HELP => output::bytes(
-            paper,
-            b"      help                            this page\n      help WORD                       more on one word\n",
-        ),
-        vocabulary::QUIT => output::bytes(
-            paper,
-            b"      quit                            end the shift; the end of the input (Ctrl-D) does it too\n",
-        ),
-        vocabulary::NAME => output::bytes(
-            paper,
-            b"      name SORT THING NAME            give a thing a name\n",
-        ),
-        _ => output::bytes(
-            paper,
-            b"      try REQUEST                     what the book would answer; it stays as it is\n",
-        ),
-    }
-}
-
-fn line(paper: &mut [u8], row: u64) {
+// Which text is of a row's word: first those of the words that are no kind, then those of the kinds, in their order.
+fn text_of(row: u64) -> u64 {
     let kind = vocabulary::kind_of(row);
-    match kind {
-        0 => line_of_panel(paper, row),
-        1..=7 => line_of_rules(paper, kind),
-        12..=14 => line_of_orders(paper, kind),
-        _ => line_of_staff(paper, kind),
+    if kind == 0 {
+        return if row < OWN { row + 1 } else { 0 };
     }
+    if kind < vocabulary::ROWS {
+        OWN + kind
+    } else {
+        0
+    }
+}
+
+// The line of a word: its kind and arguments, and what it does.
+fn line(paper: &mut [u8], row: u64) {
+    output::nth(
+        paper,
+        b"|      show                            the whole book as tables\n      show SORT THING                 all about one thing\n\
+          |      audit                           do all ten rules hold in the book?\n\
+          |      help                            this page\n      help WORD                       more on one word\n\
+          |      quit                            end the shift; the end of the input (Ctrl-D) does it too\n\
+          |      name SORT THING NAME            give a thing a name\n\
+          |      try REQUEST                     what the book would answer; it stays as it is\n\
+          |   1  define-task TASK                define a task\n\
+          |   2  define-role ROLE                define a role\n\
+          |   3  define-subject PERSON           define a person; also define-person\n\
+          |   4  sme TASK TASK                   nobody may own both; also exclude-static\n\
+          |   5  dme TASK TASK                   nobody may do both in one order; also exclude-dynamic\n\
+          |   6  rb TASK TASK                    in one order both are done in one role; also bind-role\n\
+          |   7  sb TASK TASK                    in one order both are done by one person; also bind-subject\n\
+          |   8  assign-task TASK ROLE           the role gets the task\n\
+          |   9  junior JUNIOR SENIOR            the senior role owns the junior role's tasks too\n\
+          |  10  assign-role ROLE PERSON         the person gets the role\n\
+          |  11  activate ROLE PERSON            the person acts in the role from now on\n\
+          |  12  open ORDER tasks TASK TASK ..   open an order with these tasks; also open ORDER MASK\n\
+          |  13  allocate TASK ORDER PERSON      the person does the task in the order\n\
+          |  14  close ORDER                     the order is done, and its hands are forgotten\n\
+          |  15  take-task TASK ROLE             the role has the task no more\n\
+          |  16  take-junior JUNIOR SENIOR       the one role is no junior of the other any more\n\
+          |  17  take-role ROLE PERSON           the person has the role no more\n",
+        text_of(row),
+    );
 }
 
 // The lines of the rows from `from` to before `end`.
@@ -158,137 +76,43 @@ pub fn page(paper: &mut [u8]) {
     );
 }
 
-// More on the words that define and relate ..
-fn more_on_rules(paper: &mut [u8], kind: u64) {
-    match kind {
-        1 => output::bytes(
-            paper,
-            b"A task must be defined before anything else is said of it. Once defined it stays.\nExample: define-task 0\n",
-        ),
-        2 => output::bytes(
-            paper,
-            b"A role must be defined before anything else is said of it. Once defined it stays.\nExample: define-role 0\n",
-        ),
-        3 => output::bytes(
-            paper,
-            b"A person must be defined before anything else is said of them. Once defined they stay.\nExample: define-subject 0\n",
-        ),
-        4 => output::bytes(
-            paper,
-            b"Nobody may own both tasks, by whatever roles (static mutual exclusion). It can't be taken back, and no order may be open.\n\
-              Example: sme 0 1\n",
-        ),
-        5 => output::bytes(
-            paper,
-            b"Who does the one task in an order may not do the other in it (dynamic mutual exclusion). It can't be taken back, \
-              and no order may be open.\nExample: dme 2 4\n",
-        ),
-        6 => output::bytes(
-            paper,
-            b"Within an order both tasks are done in the same role (role binding). It can't be taken back, and no order may be open.\n\
-              Example: rb 6 7\n",
-        ),
-        _ => output::bytes(
-            paper,
-            b"Within an order both tasks are done by the same person in the same role (subject binding). It can't be taken back, \
-              and no order may be open.\nExample: sb 2 3\n",
-        ),
-    }
-}
-
-// .. that say who may do what ..
-fn more_on_staff(paper: &mut [u8], kind: u64) {
-    match kind {
-        8 => output::bytes(
-            paper,
-            b"The role owns the task from now on, and so does each role above it and each person who has one of them.\nExample: assign-task 0 0\n",
-        ),
-        9 => output::bytes(
-            paper,
-            b"The first role is put below the second, which owns all that the first owns. Roles may not run in a circle.\nExample: junior 2 6\n",
-        ),
-        10 => output::bytes(
-            paper,
-            b"The person owns the role, the roles below it and their tasks. Who acted in no role acts in this one.\nExample: assign-role 0 0\n",
-        ),
-        11 => output::bytes(
-            paper,
-            b"A person acts in one role at a time, one that they own. What they are given to do is done in that role.\nExample: activate 5 6\n",
-        ),
-        15 => output::bytes(
-            paper,
-            b"The task is taken from the role that it was assigned to. What is in hand in open orders stays there.\nExample: take-task 0 0\n",
-        ),
-        16 => output::bytes(
-            paper,
-            b"The step between the two roles is taken back. What is in hand in open orders stays there.\nExample: take-junior 2 6\n",
-        ),
-        _ => output::bytes(
-            paper,
-            b"The role is taken from the person. What is in hand in open orders stays there.\nExample: take-role 4 4\n",
-        ),
-    }
-}
-
-// .. of orders ..
-fn more_on_orders(paper: &mut [u8], kind: u64) {
-    match kind {
-        12 => output::bytes(
-            paper,
-            b"The order gets the tasks named, one or more, each defined. A mask is the sum of 1 for task 0, 2 for task 1, 4 for task 2 \
-              and so on.\nExample: open 0 tasks 0 1 2, or open 0 7\n",
-        ),
-        13 => output::bytes(
-            paper,
-            b"The person does the task in the open order, and with it the tasks that are bound to it by SB; those bound by RB are held for \
-              the role that the person acts in. That role must own them all.\nExample: allocate 0 0 1 (task 0, order 0, person 1)\n",
-        ),
-        _ => output::bytes(
-            paper,
-            b"The order's tasks and who did them are forgotten; its number can be used again.\nExample: close 0\n",
-        ),
-    }
-}
-
-// .. and that are no kind.
-fn more_on_panel(paper: &mut [u8], row: u64) {
-    match row {
-        vocabulary::SHOW => output::bytes(
-            paper,
-            b"Four tables: people, roles, tasks, and the hands of open orders. With a sort and a thing: all about that one.\nExample: show person 0\n",
-        ),
-        vocabulary::AUDIT => output::bytes(
-            paper,
-            b"The audit looks at the whole book and names the lowest rule that is broken. It is done at the end of the shift too.\nExample: audit\n",
-        ),
-        vocabulary::HELP => output::bytes(
-            paper,
-            b"Alone it lists the words; with a word it says more on that one.\nExample: help allocate\n",
-        ),
-        vocabulary::QUIT => output::bytes(
-            paper,
-            b"The shift ends with an audit. The book is not kept.\nExample: quit\n",
-        ),
-        vocabulary::NAME => output::bytes(
-            paper,
-            b"The name may be used wherever the number may, and is told beside it. Letters, digits, - and _, not beginning with a digit, \
-              24 at most; no two things of a sort have the same. The book itself knows no names.\nExample: name person 0 anna\n",
-        ),
-        _ => output::bytes(
-            paper,
-            b"The request is answered as if it were made, on a copy: the book stays as it is.\nExample: try allocate 0 0 1\n",
-        ),
-    }
-}
-
+// More on a word, and an example.
 fn more(paper: &mut [u8], row: u64) {
-    let kind = vocabulary::kind_of(row);
-    match kind {
-        0 => more_on_panel(paper, row),
-        1..=7 => more_on_rules(paper, kind),
-        12..=14 => more_on_orders(paper, kind),
-        _ => more_on_staff(paper, kind),
-    }
+    output::nth(
+        paper,
+        b"|Four tables: people, roles, tasks, and the hands of open orders. With a sort and a thing: all about that one.\n\
+          Example: show person 0\n\
+          |The audit looks at the whole book and names the lowest rule that is broken. It is done at the end of the shift too.\nExample: audit\n\
+          |Alone it lists the words; with a word it says more on that one.\nExample: help allocate\n\
+          |The shift ends with an audit. The book is not kept.\nExample: quit\n\
+          |The name may be used wherever the number may, and is told beside it. Letters, digits, - and _, not beginning with a digit, 24 at \
+          most; no two things of a sort have the same. The book itself knows no names.\nExample: name person 0 anna\n\
+          |The request is answered as if it were made, on a copy: the book stays as it is.\nExample: try allocate 0 0 1\n\
+          |A task must be defined before anything else is said of it. Once defined it stays.\nExample: define-task 0\n\
+          |A role must be defined before anything else is said of it. Once defined it stays.\nExample: define-role 0\n\
+          |A person must be defined before anything else is said of them. Once defined they stay.\nExample: define-subject 0\n\
+          |Nobody may own both tasks, by whatever roles (static mutual exclusion). It can't be taken back, and no order may be open.\n\
+          Example: sme 0 1\n\
+          |Who does the one task in an order may not do the other in it (dynamic mutual exclusion). It can't be taken back, and no order may \
+          be open.\nExample: dme 2 4\n\
+          |Within an order both tasks are done in the same role (role binding). It can't be taken back, and no order may be open.\n\
+          Example: rb 6 7\n\
+          |Within an order both tasks are done by the same person in the same role (subject binding). It can't be taken back, and no order \
+          may be open.\nExample: sb 2 3\n\
+          |The role owns the task from now on, and so does each role above it and each person who has one of them.\nExample: assign-task 0 0\n\
+          |The first role is put below the second, which owns all that the first owns. Roles may not run in a circle.\nExample: junior 2 6\n\
+          |The person owns the role, the roles below it and their tasks. Who acted in no role acts in this one.\nExample: assign-role 0 0\n\
+          |A person acts in one role at a time, one that they own. What they are given to do is done in that role.\nExample: activate 5 6\n\
+          |The order gets the tasks named, one or more, each defined. A mask is the sum of 1 for task 0, 2 for task 1, 4 for task 2 and so \
+          on.\nExample: open 0 tasks 0 1 2, or open 0 7\n\
+          |The person does the task in the open order, and with it the tasks that are bound to it by SB; those bound by RB are held for the \
+          role that the person acts in. That role must own them all.\nExample: allocate 0 0 1 (task 0, order 0, person 1)\n\
+          |The order's tasks and who did them are forgotten; its number can be used again.\nExample: close 0\n\
+          |The task is taken from the role that it was assigned to. What is in hand in open orders stays there.\nExample: take-task 0 0\n\
+          |The step between the two roles is taken back. What is in hand in open orders stays there.\nExample: take-junior 2 6\n\
+          |The role is taken from the person. What is in hand in open orders stays there.\nExample: take-role 4 4\n",
+        text_of(row),
+    );
 }
 
 // Writes more on one word.

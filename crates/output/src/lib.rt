@@ -4,6 +4,7 @@
 // stands inside a JSON string, and whether a write has failed.
 
 ghost use Prim.Native.Nat.{_≤_, _<_};
+ghost use lib.ListN.{length};
 
 // How large a paper is.
 pub const ROOM: usize = 4096;
@@ -139,4 +140,59 @@ pub fn number(paper: &mut [u8], n: u64) {
     let mut digits = [0u8; 20];
     let count = io::decimal(n, &mut digits);
     bytes(paper, &digits[..count]);
+}
+
+// Several texts in one, each behind a bar: `|one|two`.
+const BAR: u8 = b'|';
+
+// Where the next bar stands from `from` on; the end of the texts where there is none.
+fn bar(texts: &[u8], from: usize) -> usize
+    requires { ⌜ from ≤ length (now texts) ⌝ }
+    ensures { λ r. ⌜ (from ≤ r) × (r ≤ length (now (texts .entry))) ⌝ }
+{
+    let mut i = from;
+    while i < texts.len() {
+        if texts[i] == BAR {
+            return i;
+        }
+        i += 1;
+    }
+    i
+}
+
+// The place behind the next bar.
+fn behind(texts: &[u8], from: usize) -> usize
+    requires { ⌜ from ≤ length (now texts) ⌝ }
+    ensures { λ r. ⌜ (from ≤ r) × (r ≤ length (now (texts .entry))) ⌝ }
+{
+    let at = bar(texts, from);
+    if at < texts.len() { at + 1 } else { at }
+}
+
+// Where one of several texts begins, and where it ends.
+pub struct Span {
+    pub start: usize,
+    pub end: usize,
+}
+
+// Text n of several, the first being 1; an empty one where there is none.
+pub fn part(texts: &[u8], n: u64) -> Span
+    ensures { λ r. ⌜ (r .start ≤ r .end) × (r .end ≤ length (now (texts .entry))) ⌝ }
+{
+    let mut start: usize = 0;
+    for _ in 0..n {
+        start = behind(texts, start);
+    }
+    Span {
+        start,
+        end: bar(texts, start),
+    }
+}
+
+// Writes text n of several.
+pub fn nth(paper: &mut [u8], texts: &[u8], n: u64) {
+    let part = part(texts, n);
+    let start = part.start;
+    let end = part.end;
+    bytes(paper, &texts[start..end]);
 }

@@ -6,9 +6,9 @@ use crate::entries::Entry;
 
 // Writes the first line: which thing it is.
 pub fn title(paper: &mut [u8], names: &[u8], sort: u64, n: u64) {
-    spoken::called::sort(paper, sort);
+    called::sort(paper, sort);
     output::byte(paper, b' ');
-    spoken::called::thing(paper, names, sort, n);
+    called::thing(paper, names, sort, n);
     output::byte(paper, b'\n');
 }
 
@@ -98,7 +98,7 @@ fn is_told(book: &[u64], sort: u64, n: u64, at: u64) -> bool
 fn part(paper: &mut [u8], names: &[u8], about: u64, word: &[u8], entry: Entry) {
     if entry.sort != about {
         output::bytes(paper, word);
-        spoken::called::things(paper, names, entry.sort, entry.set);
+        called::things(paper, names, entry.sort, entry.set);
     }
 }
 
@@ -302,7 +302,7 @@ fn label(paper: &mut [u8], sort: u64, fact: u64) {
 
 // Writes things, and ends the line.
 fn put(paper: &mut [u8], names: &[u8], entry: Entry) {
-    spoken::called::things(paper, names, entry.sort, entry.set);
+    called::things(paper, names, entry.sort, entry.set);
     output::byte(paper, b'\n');
 }
 

@@ -21,14 +21,14 @@ pub fn book(paper: &mut [u8], names: &[u8], book: &[u64]) {
 fn nothing(paper: &mut [u8], names: &[u8], sort: u64, n: u64) {
     if sort == labels::ORDER {
         output::bytes(paper, b"order ");
-        spoken::called::thing(paper, names, sort, n);
+        called::thing(paper, names, sort, n);
         output::bytes(paper, b" is not open\n");
         return;
     }
     output::bytes(paper, b"there is no ");
-    spoken::called::sort(paper, sort);
+    called::sort(paper, sort);
     output::byte(paper, b' ');
-    spoken::called::thing(paper, names, sort, n);
+    called::thing(paper, names, sort, n);
     output::byte(paper, b'\n');
 }
 

@@ -88,7 +88,7 @@ fn entry(book: &[u64], table: u64, line: u64, column: u64) -> Entry
 
 // How wide an entry is.
 fn entry_width(names: &[u8], entry: Entry) -> u64 {
-    spoken::called::width(names, entry.sort, entry.set)
+    called::width(names, entry.sort, entry.set)
 }
 
 fn larger(left: u64, right: u64) -> u64 {
@@ -198,7 +198,7 @@ fn head(paper: &mut [u8], table: u64, widths: &[u64]) {
 
 // Writes an entry in its column.
 fn put(paper: &mut [u8], names: &[u8], table: u64, column: usize, entry: Entry, widths: &[u64]) {
-    spoken::called::things(paper, names, entry.sort, entry.set);
+    called::things(paper, names, entry.sort, entry.set);
     fill(paper, table, column, entry_width(names, entry), widths);
 }
 

@@ -1,5 +1,4 @@
 // What is wrong with a line that is no request.
-use crate::called;
 use crate::wanted;
 use typed::Reason;
 

@@ -1,6 +1,5 @@
 // Answers as JSON: one object to a line. Text stands in it between opened and closed, where the paper writes each byte so that nothing
 // can break the line.
-use crate::called;
 use crate::sentence::Named;
 use crate::wanted;
 

@@ -2,117 +2,90 @@
 use crate::sentence::Named;
 use crate::sentence::tell;
 use crate::sentence::tell_if;
+use crate::sentence::tell_nth;
 
-// An argument that should have been a task. In kind 13 it may be defined, and not be one of the order's.
-fn task(paper: &mut [u8], names: &[u8], v: Named) {
-    if v.kind == 13 {
-        tell(
-            paper,
-            names,
-            b"refused: task %tx is none of order %ob's tasks",
-            v,
-        );
-    } else {
-        tell(
-            paper,
-            names,
-            b"refused: there is no task %tx; define it first",
-            v,
-        );
-    }
-}
-
-fn role(paper: &mut [u8], names: &[u8], v: Named) {
-    tell(
+// Numbers 1 to 3: what is wrong with the book or the kind.
+fn unfit(paper: &mut [u8], names: &[u8], number: u64, v: Named) {
+    tell_nth(
         paper,
         names,
-        b"refused: there is no role %rx; define it first",
+        b"|refused: the book has not 4676 words\
+          |refused: word %nx of the book is bad\
+          |refused: there is no request of kind %nk; the kinds are 1 to 17",
+        number,
         v,
     );
 }
 
-fn person(paper: &mut [u8], names: &[u8], v: Named) {
-    tell(
+// What an argument may fail to be, as sentence n of those below. In kind 13 a task may be defined, and not be one of the order's.
+const NO_TASK: u64 = 1;
+
+const NO_ROLE: u64 = 2;
+
+const NO_PERSON: u64 = 3;
+
+const NO_ORDER: u64 = 4;
+
+const NOT_IN_ORDER: u64 = 5;
+
+const NO_MASK: u64 = 6;
+
+const PAST_TASKS: u64 = 7;
+
+const PAST_ROLES: u64 = 8;
+
+const PAST_PEOPLE: u64 = 9;
+
+const PAST_ORDERS: u64 = 10;
+
+fn unfit_argument(paper: &mut [u8], names: &[u8], n: u64, v: Named) {
+    tell_nth(
         paper,
         names,
-        b"refused: there is no person %px; define them first",
+        b"|refused: there is no task %tx; define it first\
+          |refused: there is no role %rx; define it first\
+          |refused: there is no person %px; define them first\
+          |refused: order %ox is not open; open it first\
+          |refused: task %tx is none of order %ob's tasks\
+          |refused: %nx is no mask of defined tasks; give one or more, bit 0 for task 0\
+          |refused: a task's number is 0 to 63, not %nx\
+          |refused: a role's number is 0 to 63, not %nx\
+          |refused: a person's number is 0 to 63, not %nx\
+          |refused: an order's number is 0 to 63, not %nx",
+        n,
         v,
     );
-}
-
-fn order(paper: &mut [u8], names: &[u8], v: Named) {
-    tell(
-        paper,
-        names,
-        b"refused: order %ox is not open; open it first",
-        v,
-    );
-}
-
-// A number that nothing can have.
-fn out_of_range(paper: &mut [u8], names: &[u8], v: Named) {
-    let kind = v.kind;
-    match kind {
-        1 => tell(
-            paper,
-            names,
-            b"refused: a task's number is 0 to 63, not %nx",
-            v,
-        ),
-        2 => tell(
-            paper,
-            names,
-            b"refused: a role's number is 0 to 63, not %nx",
-            v,
-        ),
-        3 => tell(
-            paper,
-            names,
-            b"refused: a person's number is 0 to 63, not %nx",
-            v,
-        ),
-        _ => tell(
-            paper,
-            names,
-            b"refused: an order's number is 0 to 63, not %nx",
-            v,
-        ),
-    }
 }
 
 // What is wrong with the argument x, which should have been what the kind wants first ..
-fn first(paper: &mut [u8], names: &[u8], v: Named) {
-    let kind = v.kind;
+fn first(kind: u64) -> u64 {
     match kind {
-        1..=3 | 12 => out_of_range(paper, names, v),
-        14 => order(paper, names, v),
-        9..=11 | 16..=17 => role(paper, names, v),
-        _ => task(paper, names, v),
+        1 => PAST_TASKS,
+        2 => PAST_ROLES,
+        3 => PAST_PEOPLE,
+        12 => PAST_ORDERS,
+        13 => NOT_IN_ORDER,
+        14 => NO_ORDER,
+        9..=11 | 16..=17 => NO_ROLE,
+        _ => NO_TASK,
     }
 }
 
 // .. second ..
-fn second(paper: &mut [u8], names: &[u8], v: Named) {
-    let kind = v.kind;
+fn second(kind: u64) -> u64 {
     match kind {
-        4..=7 => task(paper, names, v),
-        8..=9 | 15..=16 => role(paper, names, v),
-        10..=11 | 17 => person(paper, names, v),
-        _ => order(paper, names, v),
+        4..=7 => NO_TASK,
+        8..=9 | 15..=16 => NO_ROLE,
+        10..=11 | 17 => NO_PERSON,
+        _ => NO_ORDER,
     }
 }
 
 // .. or third.
-fn third(paper: &mut [u8], names: &[u8], v: Named) {
-    if v.kind == 12 {
-        tell(
-            paper,
-            names,
-            b"refused: %nx is no mask of defined tasks; give one or more, bit 0 for task 0",
-            v,
-        );
-    } else {
-        person(paper, names, v);
+fn third(kind: u64) -> u64 {
+    match kind {
+        12 => NO_MASK,
+        _ => NO_PERSON,
     }
 }
 
@@ -132,123 +105,81 @@ fn with(v: Named, x: u64) -> Named {
 fn argument(paper: &mut [u8], names: &[u8], v: Named) {
     let place = v.x;
     match place {
-        1 => first(paper, names, with(v, v.a)),
-        2 => second(paper, names, with(v, v.b)),
-        _ => third(paper, names, with(v, v.c)),
+        1 => unfit_argument(paper, names, first(v.kind), with(v, v.a)),
+        2 => unfit_argument(paper, names, second(v.kind), with(v, v.b)),
+        _ => unfit_argument(paper, names, third(v.kind), with(v, v.c)),
     }
 }
 
-// What is already defined or open ..
-fn already_there(paper: &mut [u8], names: &[u8], v: Named) {
-    let kind = v.kind;
-    match kind {
-        1 => tell(paper, names, b"refused: task %ta is already defined", v),
-        2 => tell(paper, names, b"refused: role %ra is already defined", v),
-        3 => tell(paper, names, b"refused: person %pa is already defined", v),
-        _ => tell(
-            paper,
-            names,
-            b"refused: order %oa is already open; close it first, or take another number",
-            v,
-        ),
-    }
-}
-
-// .. already related ..
-fn already_related(paper: &mut [u8], names: &[u8], v: Named) {
-    let kind = v.kind;
-    match kind {
-        4 => tell(
-            paper,
-            names,
-            b"refused: task %ta and task %tb already exclude each other (SME)",
-            v,
-        ),
-        5 => tell(
-            paper,
-            names,
-            b"refused: task %ta and task %tb already exclude each other within an order (DME)",
-            v,
-        ),
-        6 => tell(
-            paper,
-            names,
-            b"refused: task %ta and task %tb are already bound to one role (RB)",
-            v,
-        ),
-        _ => tell(
-            paper,
-            names,
-            b"refused: task %ta and task %tb are already bound to one person (SB)",
-            v,
-        ),
-    }
-}
-
-// .. or already assigned.
-fn already_assigned(paper: &mut [u8], names: &[u8], v: Named) {
-    let kind = v.kind;
-    match kind {
-        8 => tell(paper, names, b"refused: role %rb already has task %ta", v),
-        9 => tell(
-            paper,
-            names,
-            b"refused: role %ra is already a junior of role %rb",
-            v,
-        ),
-        _ => tell(paper, names, b"refused: person %pb already has role %ra", v),
-    }
-}
-
+// Number 5: one sentence for each kind from 1 to 12; kind 11 is never answered so.
 fn already(paper: &mut [u8], names: &[u8], v: Named) {
-    let kind = v.kind;
-    match kind {
-        4..=7 => already_related(paper, names, v),
-        8..=10 => already_assigned(paper, names, v),
-        _ => already_there(paper, names, v),
-    }
+    tell_nth(
+        paper,
+        names,
+        b"|refused: task %ta is already defined\
+          |refused: role %ra is already defined\
+          |refused: person %pa is already defined\
+          |refused: task %ta and task %tb already exclude each other (SME)\
+          |refused: task %ta and task %tb already exclude each other within an order (DME)\
+          |refused: task %ta and task %tb are already bound to one role (RB)\
+          |refused: task %ta and task %tb are already bound to one person (SB)\
+          |refused: role %rb already has task %ta\
+          |refused: role %ra is already a junior of role %rb\
+          |refused: person %pb already has role %ra\
+          |\
+          |refused: order %oa is already open; close it first, or take another number",
+        v.kind,
+        v,
+    );
 }
 
-fn not_there(paper: &mut [u8], names: &[u8], v: Named) {
-    let kind = v.kind;
-    match kind {
-        15 => tell(
-            paper,
-            names,
-            b"refused: task %ta is not assigned to role %rb itself",
-            v,
-        ),
-        16 => tell(
-            paper,
-            names,
-            b"refused: role %ra is no direct junior of role %rb",
-            v,
-        ),
-        _ => tell(
-            paper,
-            names,
-            b"refused: role %ra is not assigned to person %pb itself",
-            v,
-        ),
-    }
+// Number 6: sentence 1 for kind 15, and so on.
+fn not_there(paper: &mut [u8], names: &[u8], n: u64, v: Named) {
+    tell_nth(
+        paper,
+        names,
+        b"|refused: task %ta is not assigned to role %rb itself\
+          |refused: role %ra is no direct junior of role %rb\
+          |refused: role %ra is not assigned to person %pb itself",
+        n,
+        v,
+    );
 }
 
-fn not_owned(paper: &mut [u8], names: &[u8], v: Named) {
-    let kind = v.kind;
-    match kind {
-        11 => tell(
-            paper,
-            names,
-            b"refused: person %pb does not own role %ra; assign it or a senior of it to them first",
-            v,
-        ),
-        _ => tell(
-            paper,
-            names,
-            b"refused: person %pc acts in no role that they own now; activate one of theirs first",
-            v,
-        ),
-    }
+// Number 7.
+fn order_open(paper: &mut [u8], names: &[u8], v: Named) {
+    tell(
+        paper,
+        names,
+        b"refused: order %ox is open, and rules between tasks stand still meanwhile; close it first",
+        v,
+    );
+}
+
+// Number 8: of kind 11, then of kind 13.
+fn not_owned(paper: &mut [u8], names: &[u8], n: u64, v: Named) {
+    tell_nth(
+        paper,
+        names,
+        b"|refused: person %pb does not own role %ra; assign it or a senior of it to them first\
+          |refused: person %pc acts in no role that they own now; activate one of theirs first",
+        n,
+        v,
+    );
+}
+
+// Numbers 9 and 10, and with 11 below, are runtime conflicts in 002: resolutions 16, 17 and 15.
+fn hands(paper: &mut [u8], names: &[u8], n: u64, v: Named) {
+    tell_nth(
+        paper,
+        names,
+        b"|refused: task %ta of order %ob is in the hands of person %px; \
+          to resolve: leave it with them, or close the order and open it anew\
+          |refused: task %ta of order %ob is held for role %rx; \
+          to resolve: let person %pc act in role %rx (activate), or choose someone who does",
+        n,
+        v,
+    );
 }
 
 // Number 11: a task of the role group that the active role does not own, task a itself or one bound to it.
@@ -274,59 +205,16 @@ fn task_not_owned(paper: &mut [u8], names: &[u8], v: Named) {
     );
 }
 
-// Numbers 9, 10 and 11 are runtime conflicts in 002: resolutions 16, 17 and 15.
-fn hands(paper: &mut [u8], names: &[u8], number: u64, v: Named) {
-    match number {
-        9 => tell(
-            paper,
-            names,
-            b"refused: task %ta of order %ob is in the hands of person %px; \
-              to resolve: leave it with them, or close the order and open it anew",
-            v,
-        ),
-        10 => tell(
-            paper,
-            names,
-            b"refused: task %ta of order %ob is held for role %rx; \
-              to resolve: let person %pc act in role %rx (activate), or choose someone who does",
-            v,
-        ),
-        _ => task_not_owned(paper, names, v),
-    }
-}
-
-// What is wrong with the book or the kind.
-fn unfit(paper: &mut [u8], names: &[u8], number: u64, v: Named) {
-    match number {
-        1 => tell(paper, names, b"refused: the book has not 4676 words", v),
-        2 => tell(paper, names, b"refused: word %nx of the book is bad", v),
-        _ => tell(
-            paper,
-            names,
-            b"refused: there is no request of kind %nk; the kinds are 1 to 17",
-            v,
-        ),
-    }
-}
-
-// Number 7.
-fn order_open(paper: &mut [u8], names: &[u8], v: Named) {
-    tell(
-        paper,
-        names,
-        b"refused: order %ox is open, and rules between tasks stand still meanwhile; close it first",
-        v,
-    );
-}
-
 pub fn refused(paper: &mut [u8], names: &[u8], number: u64, v: Named) {
+    let kind = v.kind;
     match number {
         1..=3 => unfit(paper, names, number, v),
         4 => argument(paper, names, v),
         5 => already(paper, names, v),
-        6 => not_there(paper, names, v),
+        6 => not_there(paper, names, if kind < 15 { 0 } else { kind - 14 }, v),
         7 => order_open(paper, names, v),
-        8 => not_owned(paper, names, v),
-        _ => hands(paper, names, number, v),
+        8 => not_owned(paper, names, if kind == 11 { 1 } else { 2 }, v),
+        9..=10 => hands(paper, names, number - 8, v),
+        _ => task_not_owned(paper, names, v),
     }
 }

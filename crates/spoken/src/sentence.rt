@@ -2,7 +2,6 @@
 // that is none of these), and whose it is: the request's kind (k) or its a, b, c, or the answer's x, y.
 ghost use Prim.Native.Nat.{_<_};
 ghost use lib.ListN.{length};
-use crate::called;
 
 // The numbers that a sentence may name.
 pub struct Named {
@@ -69,4 +68,12 @@ pub fn tell_if(paper: &mut [u8], names: &[u8], said: bool, text: &[u8], v: Named
     if said {
         tell(paper, names, text, v);
     }
+}
+
+// Writes sentence n of several, each behind a bar.
+pub fn tell_nth(paper: &mut [u8], names: &[u8], texts: &[u8], n: u64, v: Named) {
+    let part = output::part(texts, n);
+    let start = part.start;
+    let end = part.end;
+    tell(paper, names, &texts[start..end], v);
 }

@@ -1,8 +1,8 @@
 -- The loop goes along the numbers 0 to 63.
 use Prim.Native.Nat.{_≤_, _-_}
 use borrow.Author.Needs.{needs}
-use Rattle.spoken.proofs.called.width.Statement.{statement}
-use Rattle.spoken.proofs.called.width.Tie as tie
+use Rattle.called.proofs.width.Statement.{statement}
+use Rattle.called.proofs.width.Tie as tie
 
 abbrev Inv-loop : tie.InvT-loop
 Inv-loop names sort set wide₀ n₀ wide n = n ≤ 64

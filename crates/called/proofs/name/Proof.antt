@@ -3,8 +3,8 @@ use mathlib.Core.Path.{_≡_}
 use Prim.Native.Nat.{_≤_, _-_}
 use lib.ListN.{length}
 use borrow.Author.Needs.{needs}
-use Rattle.spoken.proofs.called.name.Statement.{statement}
-use Rattle.spoken.proofs.called.name.Tie as tie
+use Rattle.called.proofs.name.Statement.{statement}
+use Rattle.called.proofs.name.Tie as tie
 
 abbrev Inv-loop : tie.InvT-loop
 Inv-loop paper₀ names sort n end i₀ paper i = (i ≤ end) × (length paper ≡ length paper₀)

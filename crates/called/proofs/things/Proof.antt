@@ -3,8 +3,8 @@ use mathlib.Core.Path.{_≡_}
 use Prim.Native.Nat.{_≤_, _-_}
 use lib.ListN.{length}
 use borrow.Author.Needs.{needs}
-use Rattle.spoken.proofs.called.things.Statement.{statement}
-use Rattle.spoken.proofs.called.things.Tie as tie
+use Rattle.called.proofs.things.Statement.{statement}
+use Rattle.called.proofs.things.Tie as tie
 
 abbrev Inv-loop : tie.InvT-loop
 Inv-loop paper₀ names sort set n₀ paper n = (n ≤ 64) × (length paper ≡ length paper₀)
