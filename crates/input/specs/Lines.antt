@@ -15,6 +15,12 @@ unread = record { at = 0; end = 0; held = 0; whole = true; going = false; more =
 abbrev pub NoLine : Reading → Type 0
 NoLine r = r .failed ≡ true → r .more ≡ false
 
+-- the reading goes along the piece, with so much of the line
+pub record Along (held : ℕ) (whole : Bool) (o : Reading) : Type 0 where
+  pub holds : o .held ≡ held
+  pub keeps : o .whole ≡ whole
+  pub reads : o .failed ≡ false
+
 -- the byte b belongs on the text: it does not end the line, and there is room
 unfoldable pub kept : ℕ → List ℕ → ℕ → Bool
 kept room held b = elim (eqb b 10) [ true ↦ false | false ↦ ltb (length held) room ]

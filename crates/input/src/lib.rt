@@ -6,7 +6,7 @@
 ghost use mathlib.Core.Path.{_≡_};
 ghost use Prim.Native.Nat.{_≤_};
 ghost use lib.ListN.{length};
-ghost use Rattle.input.specs.Lines.{unread, NoLine, Taken};
+ghost use Rattle.input.specs.Lines.{unread, NoLine, Along, Taken};
 
 // Where the reading stands.
 pub struct Reading {
@@ -60,49 +60,36 @@ fn opened(r: Reading) -> Reading
     }
 }
 
+// A reading that goes along the piece, with so much of the line.
+fn along(at: usize, end: usize, held: usize, whole: bool, going: bool) -> Reading
+    ensures { λ o. ⌜ Along held whole o ⌝ }
+{
+    Reading {
+        at,
+        end,
+        held,
+        whole,
+        going,
+        more: true,
+        over: false,
+        failed: false,
+    }
+}
+
 // Takes the byte before `next` to the line.
 fn take(text: &mut [u8], r: Reading, next: usize, byte: u8) -> Reading
     requires { ⌜ r .held ≤ length (now text) ⌝ }
     ensures { λ o. ⌜ Taken (now (text .entry)) (now (text .exit)) r o byte ⌝ }
 {
-    let end = r.end;
     let held = r.held;
-    let whole = r.whole;
     if byte == b'\n' {
-        return Reading {
-            at: next,
-            end,
-            held,
-            whole,
-            going: false,
-            more: true,
-            over: false,
-            failed: false,
-        };
+        return along(next, r.end, held, r.whole, false);
     }
     if held < text.len() {
         text[held] = byte;
-        return Reading {
-            at: next,
-            end,
-            held: held + 1,
-            whole,
-            going: true,
-            more: true,
-            over: false,
-            failed: false,
-        };
+        return along(next, r.end, held + 1, r.whole, true);
     }
-    Reading {
-        at: next,
-        end,
-        held,
-        whole: false,
-        going: true,
-        more: true,
-        over: false,
-        failed: false,
-    }
+    along(next, r.end, held, false, true)
 }
 
 // Reads the next piece. Where nothing comes any more, what is held is the last line, if anything is; where reading fails

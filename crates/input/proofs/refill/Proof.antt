@@ -1,4 +1,5 @@
 -- Where reading fails, what is held is no line.
+use mathlib.Core.Path.{refl}
 use Rattle.input.proofs.LineLaws.{dropped, not-failed}
 use borrow.Author.Needs.{needs}
 use Rattle.input.proofs.refill.Statement.{statement}
@@ -20,7 +21,7 @@ same-length-2 : tie.Need-same-length-2
 same-length-2 c = search needs
 
 returns-2 : tie.Need-returns-2
-returns-2 c = (search needs, λ e. not-failed e)
+returns-2 c = (search needs, not-failed refl)
 
 pub refill-spec : {M : Type 1} → statement M
 refill-spec =
