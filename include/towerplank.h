@@ -137,7 +137,7 @@
     ROW(7, "a role owns both tasks of an SME pair") \
     ROW(8, "a person owns both tasks of an SME pair") \
     ROW(9, "in an open order one person holds two tasks that exclude each other") \
-    ROW(10, "in an open order bound tasks are in different hands")
+    ROW(10, "in an open order bound tasks are in different hands or roles")
 
 /* What is made of a row of these lists: an enumerator, a case with its text, one more in a count. */
 #define TOWERPLANK_AS_TEXT_(value) TOWERPLANK_QUOTED_(value)
