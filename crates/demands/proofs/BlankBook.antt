@@ -7,7 +7,7 @@ use lib.Dec.{ltb}
 use Rattle.sets.specs.Mask.{only}
 use Rattle.sets.proofs.MaskLaws.{zero-none}
 use Rattle.chains.specs.Relation.{Step}
-use Rattle.rules.specs.Book.{SME, DME, RB, SB, juniors, tasksOf, rolesOf, active, orders, blank, read}
+use Rattle.rules.specs.Book.{tableCount, SME, DME, RB, SB, juniors, tasksOf, rolesOf, active, orders, blank, read}
 use Rattle.rules.specs.Meaning.{CellWord, Pairs, Sound}
 use Rattle.demands.proofs.UnopposedKinds.{empty-cell}
 
@@ -48,7 +48,7 @@ blank-sound = record {
     nothing false = refl
 
     no-row : (n r : ℕ) → blank .row n r ≡ 0
-    no-row n r = nothing (ltb n 9 && ltb r 64)
+    no-row n r = nothing (ltb n tableCount && ltb r 64)
 
     no-cell : (p t : ℕ) → blank .cell p t ≡ 0
     no-cell p t = nothing (ltb p 64 && ltb t 64)

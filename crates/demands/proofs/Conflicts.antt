@@ -11,10 +11,10 @@ use Rattle.sets.specs.Mask.{bit, only}
 use Rattle.sets.proofs.MaskLaws.{zero-none}
 use Rattle.chains.specs.Relation.{Relation, Subset, Step, Chain, Reaches}
 use Rattle.chains.proofs.ClosureLaws.{From}
-use Rattle.rules.specs.Book.{Book, SME, DME, juniors, rolesOf}
+use Rattle.rules.specs.Book.{Book, SME, DME, juniors}
 use Rattle.rules.specs.Trade.{Owner, role, subject, ownsRole, ownedTasks}
 use Rattle.rules.specs.Requests.{Deed, change}
-use Rattle.rules.specs.Numbers.{Said, accepted, say, given, givenLowest, givenPair, Conflict, conflicts, firstOf, between, clashes, ownsBoth, gained}
+use Rattle.rules.specs.Numbers.{Said, accepted, say, given, givenLowest, givenPair, Conflict, conflicts, firstOf, between, clashes, ownsBoth, gainedRole}
 use Rattle.rules.specs.Numbers.{selfConstraint, alreadyDme, alreadySme, oneSubjectGroup, oneRoleGroup, roleOwnsBoth, subjectOwnsBoth}
 use Rattle.rules.specs.Numbers.{smeBetweenGroups, dmeBetweenGroups, selfInheritance, cycle, taskAssignment, roleAssignment, ownRoleAssignment}
 use Rattle.rules.specs.Meaning.{Sized, Sound, OwnedFrom}
@@ -189,26 +189,26 @@ module _ (d : Book) (sized : Sized d) where
     unfolding cycle
     silent-cycle ha = silent-test 30 _ (reach-shows d sized .says a b ha)
 
-    -- The gain of kinds 8 to 10, as it is computed; m is the table.
-    module _ {Gain : Subset} (m : ℕ) (small : gained d m a < 2 ^ 64) (what : (v : ℕ) → Exactly (bit (gained d m a) v) (Gain v)) where
+    -- What is gained in kinds 8 and 9, as it is computed.
+    module _ {Gain : Subset} (gained : Book → ℕ → ℕ) (small : gained d a < 2 ^ 64) (what : (v : ℕ) → Exactly (bit (gained d a) v) (Gain v)) where
       -- Of the owners that own role b, one owns a task SME to one of the gain.
       silent-owners : (n : ℕ) (start : Owner) → ((o : ℕ) → o < 64 → start o < 2 ^ 64)
-          → Silent (Unclashed (Sme d) (Owning d start) (OwnsRole d start b) Gain) (givenPair n (clashes d start (λ o. ownsRole d (start o) b) (gained d m a)))
-      silent-owners n start fits = silent-clashes (gained d m a) small what n start fits (λ o. ownsRole d (start o) b) (λ o h.
+          → Silent (Unclashed (Sme d) (Owning d start) (OwnsRole d start b) Gain) (givenPair n (clashes d start (λ o. ownsRole d (start o) b) (gained d a)))
+      silent-owners n start fits = silent-clashes (gained d a) small what n start fits (λ o. ownsRole d (start o) b) (λ o h.
           record { means = below-out d sized (start o) b; holds = below-in d sized (start o) b (fits o h) })
 
       -- 31: of the roles, b and its seniors.
-      pub silent-task-assignment : Silent (Unclashed (Sme d) (Owning d role) (OwnsRole d role b) Gain) (taskAssignment m d a b)
+      pub silent-task-assignment : Silent (Unclashed (Sme d) (Owning d role) (OwnsRole d role b) Gain) (taskAssignment gained d a b)
       unfolding taskAssignment
       silent-task-assignment = silent-owners 31 role (role-lt d sized)
 
       -- 32, of kinds 8 and 9: of the subjects.
-      pub silent-role-assignment : Silent (Unclashed (Sme d) (Owning d (subject d)) (OwnsRole d (subject d) b) Gain) (roleAssignment m d a b)
+      pub silent-role-assignment : Silent (Unclashed (Sme d) (Owning d (subject d)) (OwnsRole d (subject d) b) Gain) (roleAssignment gained d a b)
       unfolding roleAssignment
       silent-role-assignment = silent-owners 32 (subject d) (subject-lt d sized)
 
     -- 32, of kind 10: of subject b alone.
-    pub silent-own-assignment : {Gain : Subset} → gained d rolesOf a < 2 ^ 64 → ((v : ℕ) → Exactly (bit (gained d rolesOf a) v) (Gain v))
+    pub silent-own-assignment : {Gain : Subset} → gainedRole d a < 2 ^ 64 → ((v : ℕ) → Exactly (bit (gainedRole d a) v) (Gain v))
         → Silent (Unclashed (Sme d) (Owning d (subject d)) (λ o. b ≡ o) Gain) (ownRoleAssignment d a b)
     unfolding ownRoleAssignment
-    silent-own-assignment small what = silent-clashes (gained d rolesOf a) small what 32 (subject d) (subject-lt d sized) (eqb b) (λ o h. exactly-eqb b o)
+    silent-own-assignment small what = silent-clashes (gainedRole d a) small what 32 (subject d) (subject-lt d sized) (eqb b) (λ o h. exactly-eqb b o)

@@ -12,7 +12,7 @@ use Rattle.chains.proofs.RelationLaws.{chain-map, old-step, new-step, cycle-cas
 use Rattle.rules.specs.Book.{Book, tasks, roles, subjects, juniors, tasksOf, rolesOf, active}
 use Rattle.rules.specs.Trade.{Owner, role, subject, ownedTasks}
 use Rattle.rules.specs.Requests.{assign, addTo, setTable, firstActive, assigned, change}
-use Rattle.rules.specs.Numbers.{selfInheritance, cycle, taskAssignment, roleAssignment, ownRoleAssignment}
+use Rattle.rules.specs.Numbers.{selfInheritance, cycle, gainedTask, gainedRole, taskAssignment, roleAssignment, ownRoleAssignment}
 use Rattle.rules.specs.Numbers.{taskConflicts, juniorConflicts, roleConflicts, byTable, assignConflicts, conflicts}
 use Rattle.rules.specs.Meaning.{Sized, Symmetric, NoCycle, PairFree, Owned, OwnedFrom, OwnersFree, Sound}
 use Rattle.rules.proofs.Exactly.{Exactly, itself}
@@ -80,8 +80,8 @@ module _ (d : Book) (sized : Sized d) (sound : Sound d) (a b c : ℕ) (ha : a < 
   unfolding change assigned conflicts assignConflicts byTable taskConflicts
   assign-task da db =
       exact d (assign tasksOf) a b c
-      (more-silent (taskAssignment tasksOf) _ d a b (silent-task-assignment d sized a b tasksOf (pow-lt ha) (λ v. itself (bit (2 ^ a) v)))
-      (one-silent (roleAssignment tasksOf) d a b (silent-role-assignment d sized a b tasksOf (pow-lt ha) (λ v. itself (bit (2 ^ a) v)))))
+      (more-silent (taskAssignment gainedTask) _ d a b (silent-task-assignment d sized a b gainedTask (pow-lt ha) (λ v. itself (bit (2 ^ a) v)))
+      (one-silent (roleAssignment gainedTask) d a b (silent-role-assignment d sized a b gainedTask (pow-lt ha) (λ v. itself (bit (2 ^ a) v)))))
       (λ (roles, subjects). record {
         gap = sound .gap;
         bindings = sound .bindings;
@@ -108,8 +108,8 @@ module _ (d : Book) (sized : Sized d) (sound : Sound d) (a b c : ℕ) (ha : a < 
       exact d (assign juniors) a b c
       (more-silent selfInheritance _ d a b (silent-self-inheritance d sized a b)
       (more-silent cycle _ d a b (silent-cycle d sized a b ha)
-      (more-silent (taskAssignment juniors) _ d a b (silent-task-assignment d sized a b juniors (owned-lt d sized (role a)) of-role)
-      (one-silent (roleAssignment juniors) d a b (silent-role-assignment d sized a b juniors (owned-lt d sized (role a)) of-role)))))
+      (more-silent (taskAssignment gainedRole) _ d a b (silent-task-assignment d sized a b gainedRole (owned-lt d sized (role a)) of-role)
+      (one-silent (roleAssignment gainedRole) d a b (silent-role-assignment d sized a b gainedRole (owned-lt d sized (role a)) of-role)))))
       (λ (two, (far, (roles, subjects))). record {
         gap = sound .gap;
         bindings = sound .bindings;

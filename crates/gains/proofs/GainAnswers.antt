@@ -6,9 +6,9 @@ use Prim.Native.Nat.{ℕ, _≤_, _<_}
 use borrow.Author.Tests.{eq-eqb, ne-eqb}
 use Rattle.sets.specs.Mask.{bit}
 use Rattle.sets.specs.Search.{lowest}
-use Rattle.rules.specs.Book.{Book, SME, juniors, rolesOf}
+use Rattle.rules.specs.Book.{Book, SME, rolesOf}
 use Rattle.rules.specs.Trade.{subject, reach, ownedTasks}
-use Rattle.rules.specs.Numbers.{Said, accepted, say, sayXY, givenPair, Conflict, firstOf, gained, clash, juniorConflicts, roleConflicts}
+use Rattle.rules.specs.Numbers.{Said, accepted, say, sayXY, givenPair, Conflict, firstOf, gainedRole, clash, juniorConflicts, roleConflicts}
 use Rattle.rules.specs.Numbers.{selfInheritance, cycle, taskAssignment, roleAssignment, ownRoleAssignment}
 use Rattle.search.specs.declared.Found.{Found}
 use Rattle.search.specs.declared.Found.the-variants.{Pair, Nothing}
@@ -20,11 +20,11 @@ use Rattle.owners.proofs.ClashLaws.{own-clash, no-own-clash}
 use Rattle.deeds.proofs.ConflictLaws.{told, passed}
 
 module _ (d : Book) (a b : ℕ) where
-  -- 31 and 32: what the search among the owners of role b found, for the gain that was read; n is the table that gets the bit.
-  module _ (f : Conflict) (fs : List Conflict) (number n : ℕ) (owner : Owner)
-      (asks : (rest : Said) → f d a b rest ≡ givenPair number (clashesBelow d owner b (gained d n a)) rest)
-      {gain : ℕ} (isGain : gain ≡ gained d n a) {v : Found} (found : v ≡ foundPair (clashesBelow d owner b gain)) where
-    searched : v ≡ foundPair (clashesBelow d owner b (gained d n a))
+  -- 31 and 32: what the search among the owners of role b found, for the gain that was read.
+  module _ (f : Conflict) (fs : List Conflict) (number : ℕ) (gained : Book → ℕ → ℕ) (owner : Owner)
+      (asks : (rest : Said) → f d a b rest ≡ givenPair number (clashesBelow d owner b (gained d a)) rest)
+      {gain : ℕ} (isGain : gain ≡ gained d a) {v : Found} (found : v ≡ foundPair (clashesBelow d owner b gain)) where
+    searched : v ≡ foundPair (clashesBelow d owner b (gained d a))
     searched = found ∙ ap (λ (g : ℕ). foundPair (clashesBelow d owner b g)) isGain
 
     -- A pair is told ..
@@ -50,15 +50,15 @@ module _ (d : Book) (a b : ℕ) where
 
     -- Neither: 31 and 32 are asked.
     pub junior-owners : bit (reach d a) b ≡ false → {out : Said}
-        → out ≡ firstOf (taskAssignment juniors ∷ roleAssignment juniors ∷ []) d a b → out ≡ firstOf juniorConflicts d a b
+        → out ≡ firstOf (taskAssignment gainedRole ∷ roleAssignment gainedRole ∷ []) d a b → out ≡ firstOf juniorConflicts d a b
     unfolding juniorConflicts selfInheritance cycle
     junior-owners e p =
         passed d a b selfInheritance _ _ _ (λ rest. refl) (ne-eqb a b two) (passed d a b cycle _ _ _ (λ rest. refl) e p)
 
   -- Kind 10: y is the lowest clash of what subject b owns with the gain.
-  module _ {roles owned gain y : ℕ} (has : roles ≡ d .row rolesOf b) (owns : owned ≡ ownedTasks d roles) (gains : gain ≡ gained d rolesOf a)
+  module _ {roles owned gain y : ℕ} (has : roles ≡ d .row rolesOf b) (owns : owned ≡ ownedTasks d roles) (gains : gain ≡ gainedRole d a)
       (found : y ≡ lowest (clash (d .row SME) gain owned)) where
-    own : y ≡ lowest (clash (d .row SME) (gained d rolesOf a) (ownedTasks d (subject d b)))
+    own : y ≡ lowest (clash (d .row SME) (gainedRole d a) (ownedTasks d (subject d b)))
     own = found ∙ ap₂ (λ (g m : ℕ). lowest (clash (d .row SME) g m)) gains (owns ∙ ap (ownedTasks d) has)
 
     pub own-told : b < 64 → y < 64 → sayXY 32 b y ≡ firstOf roleConflicts d a b

@@ -8,19 +8,25 @@ ghost use mathlib.Core.List.{[], _∷_};
 ghost use Prim.Native.Nat.{_<_};
 ghost use Rattle.sets.specs.Mask.{bit};
 ghost use Rattle.rules.specs.Trade.{reach};
-ghost use Rattle.rules.specs.Numbers.{gained, taskAssignment, roleAssignment, juniorConflicts, roleConflicts, firstOf};
+ghost use Rattle.rules.specs.Numbers.{taskAssignment, roleAssignment, juniorConflicts, roleConflicts, firstOf};
 ghost use Rattle.book.specs.Slice.{tables, Full};
+ghost use Rattle.gains.specs.Gains.{gainOf};
 ghost use Rattle.answers.specs.Answers.{said};
 
-// What is gained: task a where a role gets a task, else all tasks owned by role a.
-fn gain_of(book: &[u64], table: u64, a: u64) -> u64
+// What an owner would gain: task a itself, or all tasks owned by role a.
+pub enum Gain {
+    Task,
+    Role,
+}
+
+// The tasks that are gained.
+fn gain_of(book: &[u64], gain: Gain, a: u64) -> u64
     requires { ⌜ Full (now book) × (a < 64) ⌝ }
-    ensures { λ r. ⌜ r ≡ gained (tables (now (book .entry))) table a ⌝ }
+    ensures { λ r. ⌜ r ≡ gainOf gain (tables (now (book .entry))) a ⌝ }
 {
-    if table == book::TASKS_OF {
-        sets::alone(a)
-    } else {
-        trade::owned_tasks(book, sets::alone(a))
+    match gain {
+        Gain::Task => sets::alone(a),
+        Gain::Role => trade::owned_tasks(book, sets::alone(a)),
     }
 }
 
@@ -33,11 +39,11 @@ fn reaches(book: &[u64], a: u64, b: u64) -> bool
 }
 
 // 32: among the subjects that own role b.
-fn subjects_conflict(book: &[u64], table: u64, a: u64, b: u64) -> Answer
+fn subjects_conflict(book: &[u64], gain: Gain, a: u64, b: u64) -> Answer
     requires { ⌜ Full (now book) × (a < 64) × (b < 64) ⌝ }
-    ensures { λ r. ⌜ said r ≡ firstOf (roleAssignment table ∷ []) (tables (now (book .entry))) a b ⌝ }
+    ensures { λ r. ⌜ said r ≡ firstOf (roleAssignment (gainOf gain) ∷ []) (tables (now (book .entry))) a b ⌝ }
 {
-    let found = owners::first_clash(book, Owner::Subject, b, gain_of(book, table, a));
+    let found = owners::first_clash(book, Owner::Subject, b, gain_of(book, gain, a));
     match found {
         Found::Pair(x, y) => Answer::RoleAssignment(x, y),
         Found::Nothing => Answer::Accepted,
@@ -45,14 +51,14 @@ fn subjects_conflict(book: &[u64], table: u64, a: u64, b: u64) -> Answer
 }
 
 // Kinds 8 and 9: 31 among b and its seniors, then 32.
-pub fn owners_conflict(book: &[u64], table: u64, a: u64, b: u64) -> Answer
+pub fn owners_conflict(book: &[u64], gain: Gain, a: u64, b: u64) -> Answer
     requires { ⌜ Full (now book) × (a < 64) × (b < 64) ⌝ }
-    ensures { λ r. ⌜ said r ≡ firstOf (taskAssignment table ∷ roleAssignment table ∷ []) (tables (now (book .entry))) a b ⌝ }
+    ensures { λ r. ⌜ said r ≡ firstOf (taskAssignment (gainOf gain) ∷ roleAssignment (gainOf gain) ∷ []) (tables (now (book .entry))) a b ⌝ }
 {
-    let found = owners::first_clash(book, Owner::Role, b, gain_of(book, table, a));
+    let found = owners::first_clash(book, Owner::Role, b, gain_of(book, gain, a));
     match found {
         Found::Pair(x, y) => Answer::TaskAssignment(x, y),
-        Found::Nothing => subjects_conflict(book, table, a, b),
+        Found::Nothing => subjects_conflict(book, gain, a, b),
     }
 }
 
@@ -67,7 +73,7 @@ pub fn junior_conflict(book: &[u64], a: u64, b: u64) -> Answer
     if reaches(book, a, b) {
         return Answer::Cycle;
     }
-    owners_conflict(book, book::JUNIORS, a, b)
+    owners_conflict(book, Gain::Role, a, b)
 }
 
 // Kind 10: 32 of subject b itself.
@@ -76,7 +82,7 @@ pub fn own_conflict(book: &[u64], a: u64, b: u64) -> Answer
     ensures { λ r. ⌜ said r ≡ firstOf roleConflicts (tables (now (book .entry))) a b ⌝ }
 {
     let owned = trade::owned_tasks(book, book::row(book, book::ROLES_OF, b));
-    let y = owners::clash_of(book, owned, gain_of(book, book::ROLES_OF, a));
+    let y = owners::clash_of(book, owned, gain_of(book, Gain::Role, a));
     if y < 64 {
         return Answer::RoleAssignment(b, y);
     }

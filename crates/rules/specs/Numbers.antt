@@ -177,19 +177,23 @@ clashes d start asked gain o = clash (d .row SME) gain (only (asked o) (ownedTas
 
 -- 31: x = lowest role, among b and its seniors, that owns a task SME to one it would gain; y = lowest such owned task
 -- 32: x = lowest subject likewise, in kinds 8 and 9 among those owning role b
--- What is gained: task a in 8, all tasks owned by role a in 9 and 10.
-abbrev pub gained : Book → ℕ → ℕ → ℕ
-gained d n a = elim (eqb n tasksOf) [ true ↦ 2 ^ a | false ↦ ownedTasks d (role a) ]
+-- What is gained: task a in 8 ..
+abbrev pub gainedTask : Book → ℕ → ℕ
+gainedTask d a = 2 ^ a
 
-unfoldable pub taskAssignment : ℕ → Conflict
-taskAssignment n d a b = givenPair 31 (clashes d role (λ o. ownsRole d (role o) b) (gained d n a))
+-- .. all tasks owned by role a in 9 and 10.
+abbrev pub gainedRole : Book → ℕ → ℕ
+gainedRole d a = ownedTasks d (role a)
 
-unfoldable pub roleAssignment : ℕ → Conflict
-roleAssignment n d a b = givenPair 32 (clashes d (subject d) (λ o. ownsRole d (subject d o) b) (gained d n a))
+unfoldable pub taskAssignment : (Book → ℕ → ℕ) → Conflict
+taskAssignment gained d a b = givenPair 31 (clashes d role (λ o. ownsRole d (role o) b) (gained d a))
+
+unfoldable pub roleAssignment : (Book → ℕ → ℕ) → Conflict
+roleAssignment gained d a b = givenPair 32 (clashes d (subject d) (λ o. ownsRole d (subject d o) b) (gained d a))
 
 -- kind 10: b itself
 unfoldable pub ownRoleAssignment : Conflict
-ownRoleAssignment d a b = givenPair 32 (clashes d (subject d) (eqb b) (gained d rolesOf a))
+ownRoleAssignment d a b = givenPair 32 (clashes d (subject d) (eqb b) (gainedRole d a))
 
 -- the tasks of order b that c holds
 unfoldable pub heldBy : Book → ℕ → ℕ → ℕ
@@ -220,11 +224,11 @@ sbConflicts = selfConstraint ∷ alreadyDme ∷ alreadySme ∷ smeBetweenGroups 
 
 -- 8: 31, 32.
 unfoldable pub taskConflicts : List Conflict
-taskConflicts = taskAssignment tasksOf ∷ roleAssignment tasksOf ∷ []
+taskConflicts = taskAssignment gainedTask ∷ roleAssignment gainedTask ∷ []
 
 -- 9: 29, 30, 31, 32.
 unfoldable pub juniorConflicts : List Conflict
-juniorConflicts = selfInheritance ∷ cycle ∷ taskAssignment juniors ∷ roleAssignment juniors ∷ []
+juniorConflicts = selfInheritance ∷ cycle ∷ taskAssignment gainedRole ∷ roleAssignment gainedRole ∷ []
 
 -- 10: 32.
 unfoldable pub roleConflicts : List Conflict

@@ -1,5 +1,6 @@
 // Kinds 8, 9 and 10: a task for a role, a junior for a role, a role for a subject. Number a joins row b of a table.
 use answers::Answer;
+use gains::Gain;
 ghost use mathlib.Core.Path.{_≡_};
 ghost use Prim.Native.Nat.{_<_};
 ghost use Rattle.rules.specs.Book.{tableCount};
@@ -26,7 +27,7 @@ fn assign_conflict(book: &[u64], table: u64, a: u64, b: u64) -> Answer
     ensures { λ r. ⌜ said r ≡ firstOf (assignConflicts table) (tables (now (book .entry))) a b ⌝ }
 {
     match table {
-        book::TASKS_OF => gains::owners_conflict(book, book::TASKS_OF, a, b),
+        book::TASKS_OF => gains::owners_conflict(book, Gain::Task, a, b),
         book::JUNIORS => gains::junior_conflict(book, a, b),
         book::ROLES_OF => gains::own_conflict(book, a, b),
         _ => Answer::UnknownKind,

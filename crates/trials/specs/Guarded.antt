@@ -17,5 +17,9 @@ abbrev pub whileOpen : Trial
 whileOpen =
     on ((0, 3) ∷ (1, 3) ∷ (2, 1) ∷ row tasksOf 0 1 ∷ row tasksOf 1 2 ∷ row orders 0 3 ∷ cell 0 0 129 ∷ cell 0 1 257 ∷ []) 4 0 1 0
 
+-- 8: task 0 in order 0 to subject 0, who acts in no role
+abbrev pub inNoRole : Trial
+inNoRole = on ((0, 1) ∷ (1, 1) ∷ (2, 1) ∷ row tasksOf 0 1 ∷ row orders 0 1 ∷ []) 13 0 0 0
+
 abbrev pub guarded : List Trial
-guarded = oneSided ∷ undefinedTask ∷ whileOpen ∷ []
+guarded = oneSided ∷ undefinedTask ∷ whileOpen ∷ inNoRole ∷ []

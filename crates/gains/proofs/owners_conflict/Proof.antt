@@ -4,6 +4,7 @@ use mathlib.Core.List.{[], _∷_}
 use Rattle.rules.specs.Numbers.{taskAssignment, roleAssignment}
 use Rattle.book.specs.Slice.{tables}
 use Rattle.owners.specs.declared.Owner.the-variants.{Role}
+use Rattle.gains.specs.Gains.{gainOf}
 use Rattle.gains.proofs.GainAnswers.{clash-told, clash-passed}
 use borrow.Author.Needs.{needs}
 use Rattle.gains.proofs.owners_conflict.Statement.{statement}
@@ -28,7 +29,7 @@ returns : tie.Need-returns
 unfolding taskAssignment
 returns c =
     let s = c .before .before .before .before .before .before .args in
-    clash-told (tables (s .book .now)) (s .a) (s .b) (taskAssignment (s .table)) (roleAssignment (s .table) ∷ []) 31 (s .table) Role
+    clash-told (tables (s .book .now)) (s .a) (s .b) (taskAssignment (gainOf (s .gain))) (roleAssignment (gainOf (s .gain)) ∷ []) 31 (gainOf (s .gain)) Role
     (λ rest. refl) (c .before .before .before .before .gain-of .ensures) (c .before .before .before .first-clash .ensures)
     (c .before .found .given .1)
 
@@ -36,7 +37,7 @@ returns-2 : tie.Need-returns-2
 unfolding taskAssignment
 returns-2 c =
     let s = c .before .before .before .before .before .before .args in
-    clash-passed (tables (s .book .now)) (s .a) (s .b) (taskAssignment (s .table)) (roleAssignment (s .table) ∷ []) 31 (s .table) Role
+    clash-passed (tables (s .book .now)) (s .a) (s .b) (taskAssignment (gainOf (s .gain))) (roleAssignment (gainOf (s .gain)) ∷ []) 31 (gainOf (s .gain)) Role
     (λ rest. refl) (c .before .before .before .before .gain-of .ensures) (c .before .before .before .first-clash .ensures)
     (c .before .enum-told .given .1) (c .subjects-conflict .ensures)
 

@@ -4,6 +4,7 @@ use mathlib.Core.List.{[]}
 use Rattle.rules.specs.Numbers.{firstOf, roleAssignment}
 use Rattle.book.specs.Slice.{tables}
 use Rattle.owners.specs.declared.Owner.the-variants.{Subject}
+use Rattle.gains.specs.Gains.{gainOf}
 use Rattle.gains.proofs.GainAnswers.{clash-told, clash-passed}
 use borrow.Author.Needs.{needs}
 use Rattle.gains.proofs.subjects_conflict.Statement.{statement}
@@ -25,14 +26,14 @@ returns : tie.Need-returns
 unfolding roleAssignment
 returns c =
     let s = c .before .before .before .before .before .before .args in
-    clash-told (tables (s .book .now)) (s .a) (s .b) (roleAssignment (s .table)) [] 32 (s .table) Subject (λ rest. refl)
+    clash-told (tables (s .book .now)) (s .a) (s .b) (roleAssignment (gainOf (s .gain))) [] 32 (gainOf (s .gain)) Subject (λ rest. refl)
     (c .before .before .before .before .gain-of .ensures) (c .before .before .before .first-clash .ensures) (c .before .found .given .1)
 
 returns-2 : tie.Need-returns-2
 unfolding firstOf roleAssignment
 returns-2 c =
     let s = c .before .before .before .before .before .args in
-    clash-passed (tables (s .book .now)) (s .a) (s .b) (roleAssignment (s .table)) [] 32 (s .table) Subject (λ rest. refl)
+    clash-passed (tables (s .book .now)) (s .a) (s .b) (roleAssignment (gainOf (s .gain))) [] 32 (gainOf (s .gain)) Subject (λ rest. refl)
     (c .before .before .before .gain-of .ensures) (c .before .before .first-clash .ensures) (c .enum-told .given .1) refl
 
 pub subjects-conflict-spec : {M : Type 1} → statement M
