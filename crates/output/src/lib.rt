@@ -142,7 +142,7 @@ pub fn number(paper: &mut [u8], n: u64) {
     bytes(paper, &digits[..count]);
 }
 
-// Several texts in one, each behind a bar: `|one|two`.
+// What parts several texts in one: `|one|two`.
 const BAR: u8 = b'|';
 
 // Where the next bar stands from `from` on; the end of the texts where there is none.
@@ -175,7 +175,7 @@ pub struct Span {
     pub end: usize,
 }
 
-// Text n of several, the first being 1; an empty one where there is none.
+// Text n of several, the one behind n bars; an empty one where there are not so many.
 pub fn part(texts: &[u8], n: u64) -> Span
     ensures { λ r. ⌜ (r .start ≤ r .end) × (r .end ≤ length (now (texts .entry))) ⌝ }
 {

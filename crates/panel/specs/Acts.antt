@@ -1,21 +1,19 @@
--- What a line does to the book, and what is answered: a request is asked of the book, one that is only tried leaves it as it is, and so
--- does every other line.
+-- What a line does to the book and to the names, and what is answered: a request is asked of the book, one that is only tried leaves it
+-- as it is, and so does every other line.
 use mathlib.Core.Path.{_≡_}
 use mathlib.Core.List.{List}
-use Prim.Native.Nat.{ℕ, _≤_}
+use Prim.Native.Nat.{ℕ}
 use lib.ListN.{length}
 use Rattle.rules.specs.Requests.{Request as Question}
 use Rattle.answers.specs.declared.Answer.{Answer}
 use Rattle.desk.specs.Guarantee.{ask, Answered}
+use Rattle.labels.specs.Names.{given}
+use Rattle.typed.specs.Words.{part}
 use Rattle.typed.specs.declared.Request.{Request}
 use Rattle.typed.specs.declared.Line.{Line}
 use Rattle.typed.specs.declared.Line.the-variants.{Blank, Ask, Try, Name, Show, ShowOne, Audit, Help, HelpOn, Quit, Fault}
 use Rattle.panel.specs.declared.acting.Acted.{Acted}
 use Rattle.panel.specs.declared.acting.Acted.the-variants.{Answered as Got, Nothing}
-
--- there are bytes from `start` to before `end`
-abbrev pub Within : ℕ → ℕ → List ℕ → Type 0
-Within start end text = (start ≤ end) × (end ≤ length text)
 
 -- the request that a line says, as document 01 has it
 abbrev pub question : Request → Question
@@ -42,3 +40,18 @@ Acts before after room Help r = Untouched before after r
 Acts before after room (HelpOn row) r = Untouched before after r
 Acts before after room Quit r = Untouched before after r
 Acts before after room (Fault reason start) r = Untouched before after r
+
+-- The names after a line of the text, where they were `names` before: what it names has the name that stands from `start` to before
+-- `end`; every other line leaves them as they are.
+abbrev pub namesAfter : List ℕ → List ℕ → Line → List ℕ
+namesAfter names text (Name sort n start end) = given names sort n (part start end text)
+namesAfter names text Blank = names
+namesAfter names text (Ask q) = names
+namesAfter names text (Try q) = names
+namesAfter names text Show = names
+namesAfter names text (ShowOne sort n) = names
+namesAfter names text Audit = names
+namesAfter names text Help = names
+namesAfter names text (HelpOn row) = names
+namesAfter names text Quit = names
+namesAfter names text (Fault reason start) = names

@@ -1,10 +1,11 @@
 -- What the panel takes as the arguments of each kind is what document 01's one fixed table asks of them.
 use mathlib.Core.Path.{_≡_}
 use mathlib.Core.Bool.{Bool, true, _&&_}
-use Prim.Native.Nat.{ℕ, _+_}
+use Prim.Native.Nat.{ℕ, _+_, _-_}
 use lib.Dec.{eqb, ltb}
+use lib.ListN.{length}
 use Rattle.sets.specs.Search.{all}
-use Rattle.rules.specs.Requests.{Needs, unused, inRange, aTask, aRole, aSubject, anOpenOrder, aTaskMask, rowOf}
+use Rattle.rules.specs.Requests.{Needs, unused, inRange, aTask, aRole, aSubject, anOpenOrder, aTaskMask, table, rowOf}
 use Rattle.typed.specs.Arguments as typed
 
 -- a sort of argument suits what the table asks; where it asks for any number in range, for a thing that need not be there yet
@@ -24,6 +25,10 @@ kindSuits kind =
     && suits (rowOf kind .b) (typed.wanted typed.seconds kind)
     && suits (rowOf kind .c) (typed.wanted typed.thirds kind)
 
--- Those of kinds 1 to 17 do. proofs/EachSuits.antt computes it.
+-- how many kinds there are: the rows of the table, but for row 0, which is no kind
+unfoldable pub kindCount : ℕ
+kindCount = length table - 1
+
+-- Those of every kind do, from kind 1 on. proofs/EachSuits.antt computes it.
 abbrev pub EachSuits : Type 0
-EachSuits = all 17 (λ i. kindSuits (i + 1)) ≡ true
+EachSuits = all kindCount (λ i. kindSuits (i + 1)) ≡ true

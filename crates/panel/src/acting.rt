@@ -1,10 +1,11 @@
 // What a line does to the book and to the names. specs/Acts.antt says it.
 ghost use mathlib.Core.Path.{_≡_};
+ghost use Prim.Native.Nat.{min};
 ghost use lib.ListN.{length};
 ghost use Rattle.labels.specs.Names.{given};
 ghost use Rattle.typed.specs.Words.{part};
 ghost use Rattle.typed.specs.Grammar.{lineOf};
-ghost use Rattle.panel.specs.Acts.{Within, Acts};
+ghost use Rattle.panel.specs.Acts.{Acts, namesAfter};
 use answers::Answer;
 use typed::Line;
 
@@ -66,21 +67,26 @@ pub fn obey(book: &mut [u64], trial: &mut [u64], text: &[u8], whole: bool, names
     Obeyed { line, acted }
 }
 
-// Thing n of the sort gets the name that stands in the text from `start` to before `end`.
-fn give(names: &mut [u8], text: &[u8], sort: u64, n: u64, start: usize, end: usize)
-    ensures { λ _. ⌜ (Within start end (now (text .entry)) → now (names .exit) ≡ given (now (names .entry)) sort n (part start end (now (text .entry)))) ⌝ }
+// The lower of two places.
+fn least(left: usize, right: usize) -> usize
+    ensures { λ r. ⌜ r ≡ min left right ⌝ }
 {
-    if text.len() < end {
-        return;
-    }
-    if end < start {
-        return;
-    }
-    labels::give(names, sort, n, &text[start..end]);
+    if left < right { left } else { right }
+}
+
+// Thing n of the sort gets the name that stands in the text from `start` to before `end`, as far as the text goes.
+fn give(names: &mut [u8], text: &[u8], sort: u64, n: u64, start: usize, end: usize)
+    ensures { λ _. ⌜ now (names .exit) ≡ given (now (names .entry)) sort n (part start end (now (text .entry))) ⌝ }
+{
+    let to = least(end, text.len());
+    let from = least(start, to);
+    labels::give(names, sort, n, &text[from..to]);
 }
 
 // The name that a line gives is kept.
-pub fn keep_name(names: &mut [u8], text: &[u8], line: Line) {
+pub fn keep_name(names: &mut [u8], text: &[u8], line: Line)
+    ensures { λ _. ⌜ now (names .exit) ≡ namesAfter (now (names .entry)) (now (text .entry)) line ⌝ }
+{
     if let Line::Name(sort, n, start, end) = line {
         give(names, text, sort, n, start, end);
     }

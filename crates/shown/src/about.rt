@@ -1,7 +1,9 @@
 // All about one thing: what it is, has, excludes and is bound to, and what is in hand.
 ghost use Prim.Native.Nat.{_<_};
 ghost use Rattle.book.specs.Slice.{Full};
+ghost use Rattle.shown.specs.Cells.{cellCount};
 use crate::entries;
+use crate::entries::CELL_COUNT;
 use crate::entries::Entry;
 
 // Writes the first line: which thing it is.
@@ -85,7 +87,7 @@ fn is_free(book: &[u64], order: u64, task: u64) -> bool
 
 // Whether a task of an order, by its number among all of them, is in hand and concerns the thing.
 fn is_told(book: &[u64], sort: u64, n: u64, at: u64) -> bool
-    requires { ⌜ Full (now book) × (n < 64) × (at < 4096) ⌝ }
+    requires { ⌜ Full (now book) × (n < 64) × (at < cellCount) ⌝ }
 {
     let order = at / 64;
     let task = at % 64;
@@ -154,7 +156,7 @@ fn hand(paper: &mut [u8], names: &[u8], book: &[u64], about: u64, order: u64, ta
 
 // Writes a task of an order, if it is to be told.
 fn hand_if(paper: &mut [u8], names: &[u8], book: &[u64], sort: u64, n: u64, at: u64)
-    requires { ⌜ Full (now book) × (n < 64) × (at < 4096) ⌝ }
+    requires { ⌜ Full (now book) × (n < 64) × (at < cellCount) ⌝ }
 {
     if is_told(book, sort, n, at) {
         hand(paper, names, book, sort, at / 64, at % 64);
@@ -165,7 +167,7 @@ fn hand_if(paper: &mut [u8], names: &[u8], book: &[u64], sort: u64, n: u64, at: 
 fn is_idle(book: &[u64], sort: u64, n: u64) -> bool
     requires { ⌜ Full (now book) × (n < 64) ⌝ }
 {
-    for at in 0..4096u64 {
+    for at in 0..CELL_COUNT {
         if is_told(book, sort, n, at) {
             return false;
         }
@@ -181,7 +183,7 @@ pub fn hands(paper: &mut [u8], names: &[u8], book: &[u64], sort: u64, n: u64)
         output::bytes(paper, b"  in hand        -\n");
         return;
     }
-    for at in 0..4096u64 {
+    for at in 0..CELL_COUNT {
         hand_if(paper, names, book, sort, n, at);
     }
 }

@@ -2,6 +2,9 @@
 ghost use Prim.Native.Nat.{_<_};
 ghost use Rattle.book.specs.Slice.{Full};
 
+// How many cells the book has: one for each task of each order.
+pub const CELL_COUNT: u64 = 4096;
+
 // A set of things of one sort.
 pub struct Entry {
     pub sort: u64,

@@ -1,7 +1,9 @@
 // The four tables. Each column is as wide as its widest entry or its heading: the widths come first, then the lines.
 ghost use Prim.Native.Nat.{_<_};
 ghost use Rattle.book.specs.Slice.{Full};
+ghost use Rattle.shown.specs.Cells.{cellCount};
 use crate::entries;
+use crate::entries::CELL_COUNT;
 use crate::entries::Entry;
 
 // The tables by number.
@@ -59,12 +61,12 @@ fn heading_width(table: u64, column: u64) -> u64 {
 
 // How many lines a table may have: a line for each thing, or for each task of each order.
 fn lines(table: u64) -> u64 {
-    if table == HANDS { 4096 } else { 64 }
+    if table == HANDS { CELL_COUNT } else { 64 }
 }
 
 // Whether a line of a table is there.
 fn is_line(book: &[u64], table: u64, line: u64) -> bool
-    requires { ⌜ Full (now book) × (line < 4096) ⌝ }
+    requires { ⌜ Full (now book) × (line < cellCount) ⌝ }
 {
     match table {
         PEOPLE => entries::is_known(book, labels::PERSON, line % 64),
@@ -76,7 +78,7 @@ fn is_line(book: &[u64], table: u64, line: u64) -> bool
 
 // What stands in a line and a column of a table.
 fn entry(book: &[u64], table: u64, line: u64, column: u64) -> Entry
-    requires { ⌜ Full (now book) × (line < 4096) ⌝ }
+    requires { ⌜ Full (now book) × (line < cellCount) ⌝ }
 {
     match table {
         PEOPLE => entries::of_person(book, line % 64, column),
@@ -97,7 +99,7 @@ fn larger(left: u64, right: u64) -> u64 {
 
 // How wide a column must be for a line, beside what it must be for others.
 fn widened(names: &[u8], book: &[u64], table: u64, line: u64, column: u64, wide: u64) -> u64
-    requires { ⌜ Full (now book) × (line < 4096) ⌝ }
+    requires { ⌜ Full (now book) × (line < cellCount) ⌝ }
 {
     if is_line(book, table, line) {
         larger(wide, entry_width(names, entry(book, table, line, column)))
@@ -113,7 +115,7 @@ fn column_width(names: &[u8], book: &[u64], table: u64, column: u64) -> u64
     let end = lines(table);
     let mut wide = heading_width(table, column);
     let mut line: u64 = 0;
-    while line < 4096 && line < end {
+    while line < CELL_COUNT && line < end {
         wide = widened(names, book, table, line, column, wide);
         line += 1;
     }
@@ -212,7 +214,7 @@ fn put_entry(
     column: usize,
     widths: &[u64],
 )
-    requires { ⌜ Full (now book) × (line < 4096) × (column < 7) ⌝ }
+    requires { ⌜ Full (now book) × (line < cellCount) × (column < 7) ⌝ }
 {
     if column <= last_column(table) {
         put(
@@ -228,7 +230,7 @@ fn put_entry(
 
 // Writes a line.
 fn put_line(paper: &mut [u8], names: &[u8], book: &[u64], table: u64, line: u64, widths: &[u64])
-    requires { ⌜ Full (now book) × (line < 4096) ⌝ }
+    requires { ⌜ Full (now book) × (line < cellCount) ⌝ }
 {
     for column in 0..COLUMNS {
         put_entry(paper, names, book, table, line, column, widths);
@@ -238,7 +240,7 @@ fn put_line(paper: &mut [u8], names: &[u8], book: &[u64], table: u64, line: u64,
 
 // Writes a line, if it is there.
 fn put_known(paper: &mut [u8], names: &[u8], book: &[u64], table: u64, line: u64, widths: &[u64])
-    requires { ⌜ Full (now book) × (line < 4096) ⌝ }
+    requires { ⌜ Full (now book) × (line < cellCount) ⌝ }
 {
     if is_line(book, table, line) {
         put_line(paper, names, book, table, line, widths);
@@ -251,7 +253,7 @@ fn put_lines(paper: &mut [u8], names: &[u8], book: &[u64], table: u64, widths: &
 {
     let end = lines(table);
     let mut line: u64 = 0;
-    while line < 4096 && line < end {
+    while line < CELL_COUNT && line < end {
         put_known(paper, names, book, table, line, widths);
         line += 1;
     }

@@ -1,9 +1,9 @@
 // What an accepted request has done.
-use crate::sentence::Named;
+use crate::sentence::Facts;
 use crate::sentence::tell_nth;
 
 // One sentence for each kind, in their order.
-pub fn accepted(paper: &mut [u8], names: &[u8], v: Named) {
+pub fn accepted(paper: &mut [u8], names: &[u8], v: Facts) {
     tell_nth(
         paper,
         names,

@@ -4,11 +4,11 @@
 // The sentences name these resolutions of 002: 20: 1. 21: 4. 22: 2, and 3 for a role binding. 23: 6, and 7 for a dynamic exclusion. 24: 5.
 // 25: 8. 26: 8 and 10. 27: 2, 5 and 6, and 3 for a role binding. 28: 4, 6 and 7. 29: 13. 30: 13 and 14. 31: 3 and 8. 32: 3, 8 and 10.
 // 33 and 34: 15 and 16.
-use crate::sentence::Named;
+use crate::sentence::Facts;
 use crate::sentence::tell_nth;
 
 // Numbers 20 to 24, of the two tasks themselves; then 22 for a role binding and 23 for a dynamic exclusion.
-fn of_two_tasks(paper: &mut [u8], names: &[u8], n: u64, v: Named) {
+fn of_two_tasks(paper: &mut [u8], names: &[u8], n: u64, v: Facts) {
     tell_nth(
         paper,
         names,
@@ -31,7 +31,7 @@ fn of_two_tasks(paper: &mut [u8], names: &[u8], n: u64, v: Named) {
 }
 
 // Numbers 25 to 28, of who owns both and of what a binding would join; then 27 for a role binding.
-fn of_owners_and_groups(paper: &mut [u8], names: &[u8], n: u64, v: Named) {
+fn of_owners_and_groups(paper: &mut [u8], names: &[u8], n: u64, v: Facts) {
     tell_nth(
         paper,
         names,
@@ -52,7 +52,7 @@ fn of_owners_and_groups(paper: &mut [u8], names: &[u8], n: u64, v: Named) {
 }
 
 // Numbers 29 to 32, of roles and of what is gained; then 31 and 32 where it is the task itself that is assigned.
-fn of_gains(paper: &mut [u8], names: &[u8], n: u64, v: Named) {
+fn of_gains(paper: &mut [u8], names: &[u8], n: u64, v: Facts) {
     tell_nth(
         paper,
         names,
@@ -77,7 +77,7 @@ fn of_gains(paper: &mut [u8], names: &[u8], n: u64, v: Named) {
 }
 
 // Numbers 33 and 34, of what the person holds.
-fn of_hands(paper: &mut [u8], names: &[u8], n: u64, v: Named) {
+fn of_hands(paper: &mut [u8], names: &[u8], n: u64, v: Facts) {
     tell_nth(
         paper,
         names,
@@ -95,7 +95,7 @@ fn either(is: bool, one: u64, other: u64) -> u64 {
     if is { one } else { other }
 }
 
-pub fn conflict(paper: &mut [u8], names: &[u8], number: u64, v: Named) {
+pub fn conflict(paper: &mut [u8], names: &[u8], number: u64, v: Facts) {
     let kind = v.kind;
     match number {
         20 => of_two_tasks(paper, names, 1, v),

@@ -1,6 +1,6 @@
 // Answers as JSON: one object to a line. Text stands in it between opened and closed, where the paper writes each byte so that nothing
 // can break the line.
-use crate::sentence::Named;
+use crate::sentence::Facts;
 use crate::wanted;
 
 // A field that is a number, with what stands before it.
@@ -81,20 +81,20 @@ fn name(paper: &mut [u8], names: &[u8], letter: u8, sort: u64, n: u64, before: b
 }
 
 // The names of the request's things; tells whether there are any.
-fn request_names(paper: &mut [u8], names: &[u8], v: Named) -> bool {
+fn request_names(paper: &mut [u8], names: &[u8], v: Facts) -> bool {
     let one = name(paper, names, b'a', typed::first_of(v.kind), v.a, false);
     let two = name(paper, names, b'b', typed::second_of(v.kind), v.b, one);
     name(paper, names, b'c', typed::third_of(v.kind), v.c, two)
 }
 
 // The names of the answer's things.
-fn answer_names(paper: &mut [u8], names: &[u8], number: u64, v: Named, before: bool) {
+fn answer_names(paper: &mut [u8], names: &[u8], number: u64, v: Facts, before: bool) {
     let one = name(paper, names, b'x', wanted::x_of(number), v.x, before);
     name(paper, names, b'y', wanted::y_of(number), v.y, one);
 }
 
 // The names of the request's things and the answer's.
-fn all_names(paper: &mut [u8], names: &[u8], number: u64, v: Named) {
+fn all_names(paper: &mut [u8], names: &[u8], number: u64, v: Facts) {
     output::bytes(paper, b",\"names\":{");
     let some = request_names(paper, names, v);
     answer_names(paper, names, number, v, some);
@@ -102,7 +102,7 @@ fn all_names(paper: &mut [u8], names: &[u8], number: u64, v: Named) {
 }
 
 // The request's numbers, and the answer's.
-fn numbers(paper: &mut [u8], answer: u64, v: Named) {
+fn numbers(paper: &mut [u8], answer: u64, v: Facts) {
     number(paper, b",\"a\":", v.a);
     number(paper, b",\"b\":", v.b);
     number(paper, b",\"c\":", v.c);
@@ -122,7 +122,7 @@ pub fn answer(
     names: &[u8],
     line: u64,
     number_of_answer: u64,
-    v: Named,
+    v: Facts,
     tried: bool,
 ) {
     number(paper, b"{\"line\":", line);

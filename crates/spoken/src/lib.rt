@@ -9,7 +9,7 @@ mod refused;
 mod sentence;
 mod wanted;
 
-use sentence::Named;
+use sentence::Facts;
 
 // How an answer is told: as JSON or plainly, and whether the request was only tried.
 pub struct How {
@@ -34,7 +34,7 @@ fn numbers(paper: &mut [u8], reply: answers::Reply) {
 }
 
 // The sentence of an answer.
-fn sentence_of(paper: &mut [u8], names: &[u8], number: u64, v: Named) {
+fn sentence_of(paper: &mut [u8], names: &[u8], number: u64, v: Facts) {
     match number {
         0 => accepted::accepted(paper, names, v),
         1..=11 => refused::refused(paper, names, number, v),
@@ -50,7 +50,7 @@ fn tried(paper: &mut [u8], trial: bool) {
 }
 
 // The sentence, with what is said before it.
-fn whole_sentence(paper: &mut [u8], names: &[u8], number: u64, v: Named, trial: bool) {
+fn whole_sentence(paper: &mut [u8], names: &[u8], number: u64, v: Facts, trial: bool) {
     tried(paper, trial);
     sentence_of(paper, names, number, v);
 }
@@ -65,7 +65,7 @@ pub fn answer(
     how: How,
 ) {
     let reply = answers::told(answer);
-    let v = Named {
+    let v = Facts {
         kind: request.kind,
         a: request.a,
         b: request.b,

@@ -1,11 +1,11 @@
 // Why the book refuses a request: numbers 1 to 11.
-use crate::sentence::Named;
+use crate::sentence::Facts;
 use crate::sentence::tell;
 use crate::sentence::tell_if;
 use crate::sentence::tell_nth;
 
 // Numbers 1 to 3: what is wrong with the book or the kind.
-fn unfit(paper: &mut [u8], names: &[u8], number: u64, v: Named) {
+fn unfit(paper: &mut [u8], names: &[u8], number: u64, v: Facts) {
     tell_nth(
         paper,
         names,
@@ -17,81 +17,41 @@ fn unfit(paper: &mut [u8], names: &[u8], number: u64, v: Named) {
     );
 }
 
-// What an argument may fail to be, as sentence n of those below. In kind 13 a task may be defined, and not be one of the order's.
-const NO_TASK: u64 = 1;
-
-const NO_ROLE: u64 = 2;
-
-const NO_PERSON: u64 = 3;
-
-const NO_ORDER: u64 = 4;
-
-const NOT_IN_ORDER: u64 = 5;
-
-const NO_MASK: u64 = 6;
-
-const PAST_TASKS: u64 = 7;
-
-const PAST_ROLES: u64 = 8;
-
-const PAST_PEOPLE: u64 = 9;
-
-const PAST_ORDERS: u64 = 10;
-
-fn unfit_argument(paper: &mut [u8], names: &[u8], n: u64, v: Named) {
+// The argument x is no thing of the sort that the kind wants there: the sorts as crate typed numbers them, a task, a role, a person, an
+// order, no argument, any number and a mask. Of these no argument and any number are never at fault.
+fn none_of_sort(paper: &mut [u8], names: &[u8], sort: u64, v: Facts) {
     tell_nth(
         paper,
         names,
-        b"|refused: there is no task %tx; define it first\
+        b"refused: there is no task %tx; define it first\
           |refused: there is no role %rx; define it first\
           |refused: there is no person %px; define them first\
           |refused: order %ox is not open; open it first\
-          |refused: task %tx is none of order %ob's tasks\
-          |refused: %nx is no mask of defined tasks; give one or more, bit 0 for task 0\
-          |refused: a task's number is 0 to 63, not %nx\
-          |refused: a role's number is 0 to 63, not %nx\
-          |refused: a person's number is 0 to 63, not %nx\
-          |refused: an order's number is 0 to 63, not %nx",
-        n,
+          |\
+          |\
+          |refused: %nx is no mask of defined tasks; give one or more, bit 0 for task 0",
+        sort,
         v,
     );
 }
 
-// What is wrong with the argument x, which should have been what the kind wants first ..
-fn first(kind: u64) -> u64 {
-    match kind {
-        1 => PAST_TASKS,
-        2 => PAST_ROLES,
-        3 => PAST_PEOPLE,
-        12 => PAST_ORDERS,
-        13 => NOT_IN_ORDER,
-        14 => NO_ORDER,
-        9..=11 | 16..=17 => NO_ROLE,
-        _ => NO_TASK,
-    }
-}
-
-// .. second ..
-fn second(kind: u64) -> u64 {
-    match kind {
-        4..=7 => NO_TASK,
-        8..=9 | 15..=16 => NO_ROLE,
-        10..=11 | 17 => NO_PERSON,
-        _ => NO_ORDER,
-    }
-}
-
-// .. or third.
-fn third(kind: u64) -> u64 {
-    match kind {
-        12 => NO_MASK,
-        _ => NO_PERSON,
-    }
+// No thing of the sort can have the number x.
+fn past_sort(paper: &mut [u8], names: &[u8], sort: u64, v: Facts) {
+    tell_nth(
+        paper,
+        names,
+        b"refused: a task's number is 0 to 63, not %nx\
+          |refused: a role's number is 0 to 63, not %nx\
+          |refused: a person's number is 0 to 63, not %nx\
+          |refused: an order's number is 0 to 63, not %nx",
+        sort,
+        v,
+    );
 }
 
 // The numbers of a sentence, with x in place of the answer's.
-fn with(v: Named, x: u64) -> Named {
-    Named {
+fn with(v: Facts, x: u64) -> Facts {
+    Facts {
         kind: v.kind,
         a: v.a,
         b: v.b,
@@ -101,18 +61,35 @@ fn with(v: Named, x: u64) -> Named {
     }
 }
 
+// The first argument x is at fault. Where the request makes the thing, only its number can be; in kind 13 the task may be defined, and not
+// be one of the order's.
+fn first_argument(paper: &mut [u8], names: &[u8], v: Facts) {
+    let kind = v.kind;
+    let sort = typed::first_of(kind);
+    match kind {
+        1..=3 | 12 => past_sort(paper, names, sort, v),
+        13 => tell(
+            paper,
+            names,
+            b"refused: task %tx is none of order %ob's tasks",
+            v,
+        ),
+        _ => none_of_sort(paper, names, sort, v),
+    }
+}
+
 // Number 4: x is the place of the argument at fault.
-fn argument(paper: &mut [u8], names: &[u8], v: Named) {
+fn argument(paper: &mut [u8], names: &[u8], v: Facts) {
     let place = v.x;
     match place {
-        1 => unfit_argument(paper, names, first(v.kind), with(v, v.a)),
-        2 => unfit_argument(paper, names, second(v.kind), with(v, v.b)),
-        _ => unfit_argument(paper, names, third(v.kind), with(v, v.c)),
+        1 => first_argument(paper, names, with(v, v.a)),
+        2 => none_of_sort(paper, names, typed::second_of(v.kind), with(v, v.b)),
+        _ => none_of_sort(paper, names, typed::third_of(v.kind), with(v, v.c)),
     }
 }
 
 // Number 5: one sentence for each kind from 1 to 12; kind 11 is never answered so.
-fn already(paper: &mut [u8], names: &[u8], v: Named) {
+fn already(paper: &mut [u8], names: &[u8], v: Facts) {
     tell_nth(
         paper,
         names,
@@ -134,7 +111,7 @@ fn already(paper: &mut [u8], names: &[u8], v: Named) {
 }
 
 // Number 6: sentence 1 for kind 15, and so on.
-fn not_there(paper: &mut [u8], names: &[u8], n: u64, v: Named) {
+fn not_there(paper: &mut [u8], names: &[u8], n: u64, v: Facts) {
     tell_nth(
         paper,
         names,
@@ -147,7 +124,7 @@ fn not_there(paper: &mut [u8], names: &[u8], n: u64, v: Named) {
 }
 
 // Number 7.
-fn order_open(paper: &mut [u8], names: &[u8], v: Named) {
+fn order_open(paper: &mut [u8], names: &[u8], v: Facts) {
     tell(
         paper,
         names,
@@ -157,7 +134,7 @@ fn order_open(paper: &mut [u8], names: &[u8], v: Named) {
 }
 
 // Number 8: of kind 11, then of kind 13.
-fn not_owned(paper: &mut [u8], names: &[u8], n: u64, v: Named) {
+fn not_owned(paper: &mut [u8], names: &[u8], n: u64, v: Facts) {
     tell_nth(
         paper,
         names,
@@ -169,7 +146,7 @@ fn not_owned(paper: &mut [u8], names: &[u8], n: u64, v: Named) {
 }
 
 // Numbers 9 and 10, and with 11 below, are runtime conflicts in 002: resolutions 16, 17 and 15.
-fn hands(paper: &mut [u8], names: &[u8], n: u64, v: Named) {
+fn hands(paper: &mut [u8], names: &[u8], n: u64, v: Facts) {
     tell_nth(
         paper,
         names,
@@ -183,7 +160,7 @@ fn hands(paper: &mut [u8], names: &[u8], n: u64, v: Named) {
 }
 
 // Number 11: a task of the role group that the active role does not own, task a itself or one bound to it.
-fn task_not_owned(paper: &mut [u8], names: &[u8], v: Named) {
+fn task_not_owned(paper: &mut [u8], names: &[u8], v: Facts) {
     tell(
         paper,
         names,
@@ -205,7 +182,7 @@ fn task_not_owned(paper: &mut [u8], names: &[u8], v: Named) {
     );
 }
 
-pub fn refused(paper: &mut [u8], names: &[u8], number: u64, v: Named) {
+pub fn refused(paper: &mut [u8], names: &[u8], number: u64, v: Facts) {
     let kind = v.kind;
     match number {
         1..=3 => unfit(paper, names, number, v),

@@ -3,8 +3,8 @@
 ghost use Prim.Native.Nat.{_<_};
 ghost use lib.ListN.{length};
 
-// The numbers that a sentence may name.
-pub struct Named {
+// The facts that a sentence may tell: the numbers of the request and of its answer.
+pub struct Facts {
     pub kind: u64,
     pub a: u64,
     pub b: u64,
@@ -13,7 +13,7 @@ pub struct Named {
     pub y: u64,
 }
 
-fn number_of(v: Named, letter: u8) -> u64 {
+fn number_of(v: Facts, letter: u8) -> u64 {
     match letter {
         b'k' => v.kind,
         b'a' => v.a,
@@ -37,7 +37,7 @@ fn mark(paper: &mut [u8], names: &[u8], sort: u8, n: u64) {
 }
 
 // Writes the byte at i, or what the mark there stands for, and answers where the text goes on.
-fn step(paper: &mut [u8], names: &[u8], text: &[u8], i: usize, v: Named) -> usize
+fn step(paper: &mut [u8], names: &[u8], text: &[u8], i: usize, v: Facts) -> usize
     requires { ⌜ i < length (now text) ⌝ }
     ensures { λ next. ⌜ i < next ⌝ }
 {
@@ -56,7 +56,7 @@ fn step(paper: &mut [u8], names: &[u8], text: &[u8], i: usize, v: Named) -> usiz
 }
 
 // Writes a sentence, with a thing for each mark.
-pub fn tell(paper: &mut [u8], names: &[u8], text: &[u8], v: Named) {
+pub fn tell(paper: &mut [u8], names: &[u8], text: &[u8], v: Facts) {
     let mut i: usize = 0;
     while i < text.len() {
         i = step(paper, names, text, i, v);
@@ -64,14 +64,14 @@ pub fn tell(paper: &mut [u8], names: &[u8], text: &[u8], v: Named) {
 }
 
 // Writes a part of a sentence that is said only now and then.
-pub fn tell_if(paper: &mut [u8], names: &[u8], said: bool, text: &[u8], v: Named) {
+pub fn tell_if(paper: &mut [u8], names: &[u8], said: bool, text: &[u8], v: Facts) {
     if said {
         tell(paper, names, text, v);
     }
 }
 
-// Writes sentence n of several, each behind a bar.
-pub fn tell_nth(paper: &mut [u8], names: &[u8], texts: &[u8], n: u64, v: Named) {
+// Writes sentence n of several, parted by bars; what stands before the first bar is number 0.
+pub fn tell_nth(paper: &mut [u8], names: &[u8], texts: &[u8], n: u64, v: Facts) {
     let part = output::part(texts, n);
     let start = part.start;
     let end = part.end;

@@ -1,14 +1,17 @@
--- The part of the text is given, where there is such a part.
-use native.Mathlib.Omega.{arith}
+-- The ends of the part are drawn into the text, which leaves the part as it is.
+use Rattle.panel.proofs.GivenLaws.{part-within}
 use borrow.Author.Needs.{needs}
 use Rattle.panel.proofs.acting.give.Statement.{statement}
 use Rattle.panel.proofs.acting.give.Tie as tie
 
-returns : tie.Need-returns
-returns c = λ h. absurd (omega (arith, h .0, h .1))
+least-requires : tie.Need-least-requires
+least-requires c κs = search needs
 
-returns-2 : tie.Need-returns-2
-returns-2 c = λ h. absurd (omega (arith, h .0, h .1))
+least-requires-2 : tie.Need-least-requires-2
+least-requires-2 c κs = search needs
+
+sub-give : tie.Need-sub-give
+sub-give c = search needs
 
 part-give-start : tie.Need-part-give-start
 part-give-start c = search needs
@@ -22,10 +25,21 @@ give-requires c κs = search needs
 same-length : tie.Need-same-length
 same-length c = search needs
 
-returns-3 : tie.Need-returns-3
-returns-3 c = λ h. c .before .before .give .ensures
+returns : tie.Need-returns
+returns c =
+    let places = c .before .before .before .before .before in
+    let text = places .before .before .before .before .args .text .now in
+    rw (← part-within text _ _ _ _ (places .before .least .ensures) (places .least2 .ensures)) (c .before .before .give .ensures)
 
 pub give-spec : {M : Type 1} → statement M
 give-spec =
     tie.close
-    (tie.spec returns returns-2 part-give-start part-give-end give-requires same-length returns-3)
+    (tie.spec
+    least-requires
+    least-requires-2
+    sub-give
+    part-give-start
+    part-give-end
+    give-requires
+    same-length
+    returns)

@@ -3,14 +3,15 @@ use mathlib.Core.Path.{_≡_}
 use Prim.Native.Nat.{_≤_, _-_}
 use lib.ListN.{length}
 use borrow.Author.Needs.{needs}
+use Rattle.shown.specs.Cells.{cellCount}
 use Rattle.shown.proofs.about.hands.Statement.{statement}
 use Rattle.shown.proofs.about.hands.Tie as tie
 
 abbrev Inv-loop : tie.InvT-loop
-Inv-loop paper₀ names book sort n at₀ paper at = (at ≤ 4096) × (length paper ≡ length paper₀)
+Inv-loop paper₀ names book sort n at₀ paper at = (at ≤ cellCount) × (length paper ≡ length paper₀)
 
 abbrev μ-loop : tie.MeasureT-loop
-μ-loop paper₀ names book sort n at₀ paper at = 4096 - at
+μ-loop paper₀ names book sort n at₀ paper at = cellCount - at
 
 is-idle-requires : tie.Need-is-idle-requires Inv-loop μ-loop
 is-idle-requires c κs = search needs

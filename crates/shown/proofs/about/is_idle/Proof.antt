@@ -1,14 +1,15 @@
 -- The loop goes along the tasks of all orders.
 use Prim.Native.Nat.{_≤_, _-_}
 use borrow.Author.Needs.{needs}
+use Rattle.shown.specs.Cells.{cellCount}
 use Rattle.shown.proofs.about.is_idle.Statement.{statement}
 use Rattle.shown.proofs.about.is_idle.Tie as tie
 
 abbrev Inv-loop : tie.InvT-loop
-Inv-loop book sort n at₀ at = at ≤ 4096
+Inv-loop book sort n at₀ at = at ≤ cellCount
 
 abbrev μ-loop : tie.MeasureT-loop
-μ-loop book sort n at₀ at = 4096 - at
+μ-loop book sort n at₀ at = cellCount - at
 
 loop-holds : tie.Need-loop-holds Inv-loop μ-loop
 loop-holds c = search needs

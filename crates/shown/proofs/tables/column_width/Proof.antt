@@ -1,14 +1,15 @@
 -- The loop goes along the lines of the table.
 use Prim.Native.Nat.{_≤_, _-_}
 use borrow.Author.Needs.{needs}
+use Rattle.shown.specs.Cells.{cellCount}
 use Rattle.shown.proofs.tables.column_width.Statement.{statement}
 use Rattle.shown.proofs.tables.column_width.Tie as tie
 
 abbrev Inv-loop : tie.InvT-loop
-Inv-loop names book table column end wide₀ line₀ wide line = line ≤ 4096
+Inv-loop names book table column end wide₀ line₀ wide line = line ≤ cellCount
 
 abbrev μ-loop : tie.MeasureT-loop
-μ-loop names book table column end wide₀ line₀ wide line = 4096 - line
+μ-loop names book table column end wide₀ line₀ wide line = cellCount - line
 
 lines-requires : tie.Need-lines-requires Inv-loop μ-loop
 lines-requires c κs = search needs

@@ -3,14 +3,15 @@ use mathlib.Core.Path.{_≡_}
 use Prim.Native.Nat.{_≤_, _-_}
 use lib.ListN.{length}
 use borrow.Author.Needs.{needs}
+use Rattle.shown.specs.Cells.{cellCount}
 use Rattle.shown.proofs.tables.put_lines.Statement.{statement}
 use Rattle.shown.proofs.tables.put_lines.Tie as tie
 
 abbrev Inv-loop : tie.InvT-loop
-Inv-loop paper₀ names book table widths end line₀ paper line = (line ≤ 4096) × (length paper ≡ length paper₀)
+Inv-loop paper₀ names book table widths end line₀ paper line = (line ≤ cellCount) × (length paper ≡ length paper₀)
 
 abbrev μ-loop : tie.MeasureT-loop
-μ-loop paper₀ names book table widths end line₀ paper line = 4096 - line
+μ-loop paper₀ names book table widths end line₀ paper line = cellCount - line
 
 lines-requires : tie.Need-lines-requires Inv-loop μ-loop
 lines-requires c κs = search needs
