@@ -75,7 +75,8 @@ def read_run(text, homes):
             verdicts[m[1].replace("::", "/")] = m[2]
         m = re.match(r"(?:\S*/)?proofs/(\S+)/Proof\.antt:\d+:\d+: error: (.*)", line)
         if m and "was not admitted" not in m[2]:
-            for name in m[1].split("+")[1:] or [m[1]]:
+            module, *cycle = m[1].split("+")  # functions that call one another, or themselves, have one proof
+            for name in [module + c for c in cycle] or [module]:
                 errors.setdefault(name, []).append(m[2])
         m = re.match(r"(?:\S*/)?src/(\S+\.rt):(\d+):\d+: (error\[.*)", line)
         if m:
