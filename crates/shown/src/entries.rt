@@ -1,6 +1,9 @@
 // What the book says of things, as sets: what stands in the tables, and what is told of one thing.
+ghost use mathlib.Core.Path.{_≡_};
 ghost use Prim.Native.Nat.{_<_};
-ghost use Rattle.book.specs.Slice.{Full};
+ghost use Rattle.sets.specs.Mask.{bit};
+ghost use Rattle.rules.specs.Book.{orders};
+ghost use Rattle.book.specs.Slice.{tables, Full};
 
 // How many cells the book has: one for each task of each order.
 pub const CELL_COUNT: u64 = 4096;
@@ -114,6 +117,7 @@ pub fn of_hand(book: &[u64], order: u64, task: u64, column: u64) -> Entry
 // Whether the order has the task.
 pub fn is_hand(book: &[u64], order: u64, task: u64) -> bool
     requires { ⌜ Full (now book) × (order < 64) × (task < 64) ⌝ }
+    ensures { λ t. ⌜ t ≡ bit ((tables (now (book .entry))) .row orders order) task ⌝ }
 {
-    sets::has(book::row(book, book::ORDERS, order), task)
+    book::is_in_row(book, book::ORDERS, order, task)
 }
