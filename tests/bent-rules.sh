@@ -111,9 +111,13 @@ bend "a role-bound task of a bound task that gets no role" Requests.antt \
     'bitAnd (roleGroup d a) (d .row orders b)' 'bitAnd (subjectGroup d a) (d .row orders b)' Orders boundHands
 bend "a closed order that keeps its cells" Requests.antt \
     'cell = λ q t. elim (eqb q p) [ true ↦ 0 | false ↦ d .cell q t ]' 'cell = d .cell' Orders closedOrder
+bend "one bit of a pair taken back and not the other" Requests.antt \
+    'takePair rows a b = takeFrom (takeFrom rows b a) a b' 'takePair rows a b = takeFrom rows a b' PairsBack dmeBack
+bend "a pair of one table taken back in the next" Requests.antt \
+    'setTable d n (takePair (d .row n) a b)' 'setTable d (suc n) (takePair (d .row n) a b)' PairsBack smeBack
 bend "4 where a task need not be defined" Requests.antt \
     'fits d aTask v = ltb v 64 && bit (tasks d) v' 'fits d aTask v = ltb v 64' Guarded undefinedTask
-bend "7 left out of kinds 4 to 7" Numbers.antt '(givenLowest 7 (isOpen d) accepted)' 'accepted' Guarded whileOpen
+bend "7 left out of kinds 4 to 7" Numbers.antt '(say 5) (whileOpen d)' '(say 5) accepted' Guarded whileOpen
 bend "8 left out of kind 13" Numbers.antt '(given (not (activeOwned d c)) (say 8)' '(given false (say 8)' Guarded inNoRole
 
 # ---- A word of the trade, on which a check and a rule both stand: the rule no longer finds what the check still does
@@ -131,6 +135,8 @@ bend "21 asked of kind 6 too" Numbers.antt \
     'rbConflicts = selfConstraint ∷ alreadySme' 'rbConflicts = selfConstraint ∷ alreadyDme' Pairs freeRb
 bend "28 of all that is DME to a's group" Numbers.antt \
     '(d .row DME) (subjectGroup d a) (subjectGroup d b)' '(d .row DME) (subjectGroup d a) (2 ^ 64 - 1)' Pairs freeSb
+bend "23 asked of kinds 18 to 21 too" Numbers.antt \
+    'conflicts (unrelate n) c = []' 'conflicts (unrelate n) c = oneSubjectGroup ∷ []' PairsBack sbBack
 bend "31 of every role" Numbers.antt '(λ o. ownsRole d (role o) b)' '(λ o. true)' Staff freeTask
 bend "30 turned round" Numbers.antt 'bit (reach d a) b' 'bit (reach d b) a' Staff freeJunior
 bend "32 of tasks that are DME" Numbers.antt 'clash (d .row SME) gain' 'clash (d .row DME) gain' Staff freeRole
@@ -156,6 +162,8 @@ bend "rule 10 with one S in a role group" Audit.antt 'implies (bit bySubject v)'
 # ---- Written another way
 
 same "20 with a test that adds nothing" Numbers.antt 'given (eqb a b) (say 20' 'given (eqb b a || false) (say 20' Pairs ownBinding
+same "the two bits of a pair taken back in the other order" Requests.antt \
+    'takePair rows a b = takeFrom (takeFrom rows b a) a b' 'takePair rows a b = takeFrom (takeFrom rows a b) b a' PairsBack dmeBack
 same "25 and 26 with their two tests swapped" Numbers.antt 'bit mine a && bit mine b' 'bit mine b && bit mine a' Pairs roleOwns
 same "27 and 28 with their three tests in another order" Numbers.antt \
     'bit xs u && (bit (rows u) v && bit ys v)' '(bit ys v && bit xs u) && bit (rows u) v' Pairs chainedSme

@@ -24,9 +24,9 @@ pub enum Argument {
 pub struct Row(pub Argument, pub Argument, pub Argument);
 
 // Row 0, and one for each kind.
-const ROWS: usize = 18;
+const ROWS: usize = 22;
 
-// By kind: the one fixed table of seventeen rows, after row 0, which is no kind.
+// By kind: the one fixed table of twenty-one rows, after row 0, which is no kind.
 const TABLE: [Row; ROWS] = [
     Row(Argument::Unused, Argument::Unused, Argument::Unused), // no kind
     Row(Argument::InRange, Argument::Unused, Argument::Unused), // 1
@@ -46,6 +46,10 @@ const TABLE: [Row; ROWS] = [
     Row(Argument::Task, Argument::Role, Argument::Unused), // 15
     Row(Argument::Role, Argument::Role, Argument::Unused), // 16
     Row(Argument::Role, Argument::Subject, Argument::Unused), // 17
+    Row(Argument::Task, Argument::Task, Argument::Unused), // 18
+    Row(Argument::Task, Argument::Task, Argument::Unused), // 19
+    Row(Argument::Task, Argument::Task, Argument::Unused), // 20
+    Row(Argument::Task, Argument::Task, Argument::Unused), // 21
 ];
 
 // The row of a kind; what is no kind asks for nothing.

@@ -1,11 +1,11 @@
 -- How a function shows what it settled: the first answer that is not 0 stands, and only 0 changes the book.
 use mathlib.Core.Path.{_≡_, refl, sym, ap, ap₂, _∙_}
 use mathlib.Core.Bool.{true, false, true≢false}
-use mathlib.Core.List.{List}
+use mathlib.Core.List.{List, []}
 use Prim.Native.Nat.{ℕ}
 use Rattle.rules.specs.Book.{Book}
 use Rattle.rules.specs.Requests.{Deed, change}
-use Rattle.rules.specs.Numbers.{Said, accepted, says, orElse, stateRefusal, conflicts, firstOf, isAccepted}
+use Rattle.rules.specs.Numbers.{Said, accepted, says, isAccepted, stateRefusal, Conflict, conflicts, firstOf, orElse}
 use Rattle.book.specs.Slice.{tables, Full}
 use Rattle.answers.specs.declared.Answer.{Answer}
 use Rattle.answers.specs.Answers.{said}
@@ -21,6 +21,11 @@ unfolding orElse
 gives-way accepted t e = refl
 gives-way (says n r) t e = absurd (true≢false (sym e))
 
+stands-alone : (s : Said) → orElse s accepted ≡ s
+unfolding orElse
+stands-alone accepted = refl
+stands-alone (says n r) = refl
+
 module _ (d : Book) (k : Deed) (a b c : ℕ) where
   -- A refusal is the answer ..
   pub decide-refused : (s : Said) → s ≡ stateRefusal d k a b c → isAccepted s ≡ false → s ≡ decide d k a b c
@@ -31,6 +36,12 @@ module _ (d : Book) (k : Deed) (a b c : ℕ) where
   pub decide-conflict : (s t : Said) → s ≡ stateRefusal d k a b c → isAccepted s ≡ true → t ≡ firstOf (conflicts k c) d a b → t ≡ decide d k a b c
   unfolding decide
   decide-conflict s t e f g = g ∙ sym (gives-way (stateRefusal d k a b c) _ (ap isAccepted (sym e) ∙ f))
+
+  -- Of a deed that nothing conflicts with, the refusals decide.
+  pub decide-unopposed : conflicts k c ≡ [] → stateRefusal d k a b c ≡ decide d k a b c
+  unfolding decide firstOf
+  decide-unopposed e =
+      sym (ap (λ (fs : List Conflict). orElse (stateRefusal d k a b c) (firstOf fs d a b)) e ∙ stands-alone (stateRefusal d k a b c))
 
 settle-changed : (s : Said) (new old : Book) → isAccepted s ≡ true → settle s new old ≡ new
 unfolding settle

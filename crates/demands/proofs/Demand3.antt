@@ -20,7 +20,7 @@ use Rattle.demands.proofs.BlankBook.{blank-sound}
 use Rattle.demands.proofs.EveryKind.{deed-exact}
 
 -- Of a book of 4,676 words the answer is that of its tables.
-whole-answer : (w : ℕ → ℕ) (q : Request) → answer bookWords w q ≡ judge (read w) q
+pub whole-answer : (w : ℕ → ℕ) (q : Request) → answer bookWords w q ≡ judge (read w) q
 unfolding answer given
 whole-answer w q = refl
 

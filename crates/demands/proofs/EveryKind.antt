@@ -16,13 +16,13 @@ use Rattle.rules.specs.Numbers.{accepted, givenLowest, activeOwned, allocateRef
 use Rattle.rules.specs.Meaning.{Sized, Sound}
 use Rattle.rules.proofs.SaidLaws.{said-not-accepted}
 use Rattle.rules.proofs.NumberLaws.{given-out, lowest-out, Fitting}
-use Rattle.rules.proofs.ChangeLaws.{Known, no-kind, defines, relates, assigns, activates, opens, allocates, closes, takes-back, a-task, a-junior, a-role}
+use Rattle.rules.proofs.ChangeLaws.{Known, no-kind, defines, relates, assigns, activates, opens, allocates, closes, takes-back, unrelates, a-task, a-junior, a-role}
 use Rattle.rules.proofs.TradeLaws.{step-from}
 use Rattle.demands.proofs.Conflicts.{Exact}
 use Rattle.demands.proofs.PairKinds.{relate-exact}
 use Rattle.demands.proofs.StaffKinds.{assign-task, assign-junior, assign-role}
 use Rattle.demands.proofs.UnopposedKinds.{define-exact, activate-exact, open-exact, close-exact}
-use Rattle.demands.proofs.TakenBack.{take-exact}
+use Rattle.demands.proofs.TakenBack.{take-exact, unrelate-exact}
 use Rattle.demands.proofs.Allocation.{allocate-exact}
 
 -- An argument that must be defined is a number below 64, and defined.
@@ -41,7 +41,7 @@ module _ (d : Book) (sized : Sized d) (sound : Sound d) (a b c : ℕ) where
   unfolding activeOwned
   has-role e = let n = eqb-false (d .row active c) 0 (refute _ (not-out _ (and-out (not (eqb (d .row active c) 0)) _ e .0))) in omega arith
 
-  -- Every row of the table of seventeen is exact.
+  -- Every row of the table is exact.
   pub deed-exact : {row : Row} → Known row → Fitting d row a b c → stateRefusal d (row .deed) a b c ≡ accepted → Exact d (row .deed) a b c
   unfolding fits stateRefusal allocateRefusal
   deed-exact no-kind f e = absurd (said-not-accepted e)
@@ -62,3 +62,4 @@ module _ (d : Book) (sized : Sized d) (sound : Sound d) (a b c : ℕ) where
       allocate-exact d sized sound a b c (defined _ a (f .first) .0) (z .0) (d .row active c - 1) (has-role (not-false _ (s .0))) (z .1)
   deed-exact closes f e = close-exact d sound a b c
   deed-exact (takes-back h) f e = take-exact d sound a b c h
+  deed-exact (unrelates n h) f e = unrelate-exact d sound a b c sized (defined _ a (f .first) .0) (defined _ b (f .second) .0) n h

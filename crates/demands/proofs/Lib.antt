@@ -7,7 +7,9 @@ pub mod PairKinds
 pub mod StaffKinds
 pub mod Allocation
 pub mod UnopposedKinds
+pub mod Fewer
 pub mod TakenBack
 pub mod BlankBook
 pub mod EveryKind
 pub mod Demand3
+pub mod PairsBack

@@ -1,17 +1,20 @@
 -- One row of a table changed: the steps that there are before and after. The changes are those of document 01's
--- requests: a bit added to a row, both bits of a pair added, a bit taken back.
-use mathlib.Core.Path.{_≡_, refl, sym, ap, subst}
+-- requests: a bit added to a row, both bits of a pair added, a bit taken back, both bits of a pair taken back.
+use mathlib.Core.Path.{_≡_, refl, sym, ap, _∙_, subst}
 use mathlib.Core.Logic.{_⊎_, inl, inr}
-use mathlib.Core.Bool.{Bool, true, false}
-use Prim.Native.Nat.{ℕ}
-use borrow.Author.Tests.{eq-eqb, ne-eqb}
-use Rattle.sets.specs.Mask.{with, without}
-use Rattle.sets.proofs.MaskLaws.{in-with, with-old, with-out, without-old}
+use mathlib.Core.Bool.{Bool, true, false, not}
+use Prim.Native.Nat.{ℕ, _<_}
+use lib.Dec.{eqb}
+use borrow.Author.Tests.{eqb-true, eq-eqb, ne-eqb}
+use Rattle.sets.specs.Mask.{bit, with, without}
+use Rattle.sets.proofs.Logic.{and-out, and-in, not-in, not-out}
+use Rattle.sets.proofs.MaskLaws.{in-with, with-old, with-out, without-old, bit-without}
 use Rattle.chains.specs.Relation.{Relation, In, Step}
 use Rattle.chains.proofs.RelationLaws.{Tied, old, there, back, Under, old-step, new-step}
-use Rattle.rules.specs.Requests.{setRow, addTo, addPair, takeFrom}
-use Rattle.rules.specs.Meaning.{Between, Pairs}
-use Rattle.rules.proofs.ChangeLaws.{set-cases}
+use Rattle.rules.specs.Requests.{setRow, addTo, takeFrom, addPair, takePair}
+use Rattle.rules.specs.Meaning.{Tall, Symmetric, Between, Pairs}
+use Rattle.rules.proofs.ChangeLaws.{set-cases, take-tall}
+use Rattle.rules.proofs.TradeLaws.{step-to}
 use Rattle.demands.proofs.PairRules.{Adds}
 
 -- Row r is now v.
@@ -107,6 +110,48 @@ module _ (rows : ℕ → ℕ) (a b : ℕ) where
   pub pair-two : (T : ℕ) → Pairs T (addPair rows a b) → a ≡ b → ⊥
   pair-two T now q = now .rule1 a (subst (λ (x : ℕ). Step (addPair rows a b) a x) (sym q) (pair-adds .into a b there))
 
--- Number a is taken from row b: no step is new.
-pub take-old : (rows : ℕ → ℕ) (b a u v : ℕ) → Step (takeFrom rows b a) u v → Step rows u v
-take-old rows b a = set-cases rows b (without (rows b) a) (λ s x. (v : ℕ) → In x v → Step rows s v) (without-old (rows b) a) (λ s n v e. e)
+-- A number that was taken from a set is not in it ..
+without-gone : (m a : ℕ) → a < 64 → In (without m a) a → ⊥
+without-gone m a h e = not-out (eqb a a) (and-out (bit m a) (not (eqb a a)) (sym (bit-without m a a h h) ∙ e) .1) (eq-eqb a a refl)
+
+-- .. and another that was in it still is.
+without-kept : (m a i : ℕ) → a < 64 → i < 64 → In m i → (i ≡ a → ⊥) → In (without m a) i
+without-kept m a i h l e n = bit-without m a i h l ∙ and-in e (not-in (eqb a i) (λ q. n (sym (eqb-true a i q))))
+
+-- the step from u to v is not that from b to a
+abbrev Other : ℕ → ℕ → Relation
+Other b a u v = u ≡ b → v ≡ a → ⊥
+
+-- Number a is taken from row b.
+module _ (rows : ℕ → ℕ) (b a : ℕ) where
+  -- No step is new.
+  pub take-old : (u v : ℕ) → Step (takeFrom rows b a) u v → Step rows u v
+  take-old = set-cases rows b (without (rows b) a) (λ s x. (v : ℕ) → In x v → Step rows s v) (without-old (rows b) a) (λ s n v e. e)
+
+  -- The step from b to a is gone ..
+  take-gone : a < 64 → (u v : ℕ) → Step (takeFrom rows b a) u v → Other b a u v
+  take-gone ha =
+      set-cases rows b (without (rows b) a) (λ s x. (v : ℕ) → In x v → Other b a s v)
+      (λ v e p q. without-gone (rows b) a ha (subst (In (without (rows b) a)) q e))
+      (λ s n v e p q. n p)
+
+  -- .. and every other is kept.
+  take-kept : Tall rows → a < 64 → (u v : ℕ) → Step rows u v → Other b a u v → Step (takeFrom rows b a) u v
+  take-kept tall ha =
+      set-cases rows b (without (rows b) a) (λ s x. (v : ℕ) → Step rows s v → Other b a s v → In x v)
+      (λ v e f. without-kept (rows b) a v ha (step-to tall b v e) e (f refl))
+      (λ s n v e f. e)
+
+-- Both bits of the pair a, b are taken.
+module _ (rows : ℕ → ℕ) (a b : ℕ) where
+  -- No step is new ..
+  pub pair-gone : (u v : ℕ) → Step (takePair rows a b) u v → Step rows u v
+  pair-gone u v e = take-old rows b a u v (take-old (takeFrom rows b a) a b u v e)
+
+  -- .. and a table that ran both ways still does.
+  pub pair-turns : Tall rows → a < 64 → b < 64 → Symmetric (Step rows) → Symmetric (Step (takePair rows a b))
+  pair-turns tall ha hb turn u v e =
+      let once = takeFrom rows b a in
+      let was = take-old once a b u v e in
+      let back = take-kept rows b a tall ha v u (turn u v (take-old rows b a u v was)) (λ p q. take-gone once a b hb u v e q p) in
+      take-kept once a b (take-tall b a tall hb) hb v u back (λ p q. take-gone rows b a ha u v was q p)

@@ -1,69 +1,63 @@
--- Kinds 15, 16 and 17: what 8, 9 and 10 added is taken back. No conflict is met, since owners then own less:
--- one law serves the three tables, of a book that has no steps that the other has not.
-use mathlib.Core.Path.{_≡_, refl, sym, subst}
-use mathlib.Core.Bool.{Bool, true, false}
-use Prim.Native.Nat.{ℕ, _<_}
+-- Kinds 15 to 17 and 18 to 21: what 8 to 10 and 4 to 7 added is taken back. No conflict is met, since the book then has fewer steps:
+-- one law serves the seven tables. Of a pair both bits go, so that its table still runs both ways.
+use mathlib.Core.Path.{refl}
+use Prim.Native.Nat.{ℕ, zero, suc, _<_}
+use native.Mathlib.Omega.{arith}
 use lib.Dec.{eqb}
-use borrow.Author.Tests.{eqb-true}
-use Rattle.chains.specs.Relation.{In, Step}
-use Rattle.chains.proofs.RelationLaws.{chain-map}
-use Rattle.rules.specs.Book.{Book, tasks, roles, subjects, SME, DME, RB, SB, juniors, tasksOf, rolesOf, active, orders}
-use Rattle.rules.specs.Trade.{role, subject}
-use Rattle.rules.specs.Requests.{Needs, takeBack, takeFrom, setTable, change}
+use borrow.Author.Tests.{ne-eqb}
+use Rattle.chains.specs.Relation.{Step}
+use Rattle.rules.specs.Book.{Book, tasks, active, orders}
+use Rattle.rules.specs.Requests.{Needs, takeBack, unrelate, takeFrom, takePair, setTable, change}
 use Rattle.rules.specs.Numbers.{conflicts}
-use Rattle.rules.specs.Meaning.{PairFree, OwnedFrom, Bindings, Ranks, Orders, Sound}
-use Rattle.rules.proofs.ChangeLaws.{Held, a-task, a-junior, a-role}
-use Rattle.demands.proofs.RowChanges.{take-old}
-use Rattle.demands.proofs.Owners.{owned-map}
-use Rattle.demands.proofs.Conflicts.{Exact, Owning}
+use Rattle.rules.specs.Meaning.{Symmetric, Sized, Pairs, Sound}
+use Rattle.rules.proofs.BookLaws.{unchosen}
+use Rattle.rules.proofs.ChangeLaws.{Held, held-holding, table-cases}
+use Rattle.demands.proofs.RowChanges.{take-old, pair-gone, pair-turns}
+use Rattle.demands.proofs.Conflicts.{Exact}
 use Rattle.demands.proofs.UnopposedKinds.{unopposed}
+use Rattle.demands.proofs.Fewer.{Beside, sound-fewer}
 
--- A book d′ whose tables have no steps that d has not: its owners own no more, and no role reaches more.
-module _ (d d′ : Book) (fewer : (n u v : ℕ) → Step (d′ .row n) u v → Step (d .row n) u v) where
-  -- All of d′ but what owners own and reach is given as it is.
-  sound-less : d′ .head 3 ≡ 0 → Bindings (tasks d′) (d′ .row SME) (d′ .row DME) (d′ .row RB) (d′ .row SB)
-      → Ranks (tasks d′) (roles d′) (subjects d′) (d .row juniors) (d .row tasksOf) (d .row rolesOf) (d′ .row active)
-      → Orders (tasks d′) (roles d′) (subjects d′) (d′ .row SME) (d′ .row DME) (d′ .row RB) (d′ .row SB) (d′ .row orders) (d′ .cell)
-      → ((o : ℕ) → o < 64 → PairFree (Step (d′ .row SME)) (Owning d role o))
-      → ((o : ℕ) → o < 64 → PairFree (Step (d′ .row SME)) (Owning d (subject d) o))
-      → Sound d′
-  sound-less gap bindings ranks hands rule7 rule8 = record {
-    gap = gap;
-    bindings = bindings;
-    ranks = record {
-      juniors-formed = λ u v e. ranks .juniors-formed u v (fewer juniors u v e);
-      tasks-formed = λ u v e. ranks .tasks-formed u v (fewer tasksOf u v e);
-      roles-formed = λ u v e. ranks .roles-formed u v (fewer rolesOf u v e);
-      active-formed = ranks .active-formed;
-      rule6 = λ r w. ranks .rule6 r (record { before = w .before; way = chain-map (fewer juniors) (w .way); last = fewer juniors (w .before) r (w .last) });
-    };
-    orders = hands;
-    rule7 = λ o h u v x p q. (let own = less (role o) (role o) (λ r e. e) in rule7 o h u v x (own u p) (own v q));
-    rule8 = λ o h u v x p q. (let own = less (d′ .row rolesOf o) (d .row rolesOf o) (fewer rolesOf o) in rule8 o h u v x (own u p) (own v q));
-  }
-    where
-      less : (m′ m : ℕ) → ((r : ℕ) → In m′ r → In m r) → (t : ℕ) → OwnedFrom d′ m′ t → OwnedFrom d m t
-      less m′ m start = owned-map (fewer juniors) (fewer tasksOf) start
+-- Where one of tables 0 to 6 is changed, nothing else is.
+table-beside : (d : Book) (n : ℕ) (f : ℕ → ℕ) → n < active → Beside d (setTable d n f)
+table-beside d n f h = record {
+  heads = refl;
+  cells = refl;
+  actives = unchosen f (d .row active) (eqb active n) (ne-eqb active n (λ e. omega arith));
+  opened = unchosen f (d .row orders) (eqb orders n) (ne-eqb orders n (λ e. omega arith));
+}
 
--- One step is taken from a table.
-module _ (d : Book) (sound : Sound d) (a b c : ℕ) where
-  -- The tables have no step more, whichever of them lost one.
-  taken : (n m u v : ℕ) → Step (setTable d n (takeFrom (d .row n) b a) .row m) u v → Step (d .row m) u v
-  taken n m u v = go (eqb m n) refl
-    where
-      go : (t : Bool) → eqb m n ≡ t → Step (elim t [ true ↦ takeFrom (d .row n) b a | false ↦ d .row m ]) u v → Step (d .row m) u v
-      go true e q = subst (λ (x : ℕ). Step (d .row x) u v) (sym (eqb-true m n e)) (take-old (d .row n) b a u v q)
-      go false e q = q
+-- The pair tables of a sound book.
+pairs-of : (d : Book) → Sound d → (n : ℕ) → n < 4 → Pairs (tasks d) (d .row n)
+pairs-of d sound zero h = sound .bindings .sme
+pairs-of d sound (suc zero) h = sound .bindings .dme
+pairs-of d sound (suc (suc zero)) h = sound .bindings .rb
+pairs-of d sound (suc (suc (suc zero))) h = sound .bindings .sb
+pairs-of d sound (suc (suc (suc (suc n)))) h = absurd (omega arith)
 
-  -- So the book stays sound: each table in turn, by the same law.
-  pub take-exact : {n : ℕ} {x y : Needs} → Held n x y → Exact d (takeBack n) a b c
-  unfolding change conflicts
-  take-exact a-task =
-      unopposed d (takeBack tasksOf) a b c refl
-      (sound-less d _ (taken tasksOf) (sound .gap) (sound .bindings) (sound .ranks) (sound .orders) (sound .rule7) (sound .rule8))
-  take-exact a-junior =
-      unopposed d (takeBack juniors) a b c refl
-      (sound-less d _ (taken juniors) (sound .gap) (sound .bindings) (sound .ranks) (sound .orders) (sound .rule7) (sound .rule8))
-  take-exact a-role =
-      unopposed d (takeBack rolesOf) a b c refl
-      (sound-less d _ (taken rolesOf) (sound .gap) (sound .bindings) (sound .ranks) (sound .orders) (sound .rule7) (sound .rule8))
+module _ (d : Book) (sound : Sound d) where
+  -- A book stays sound where one of these tables has fewer steps, and still runs both ways if it is a pair table.
+  table-fewer : (n : ℕ) (f : ℕ → ℕ) → n < active → ((u v : ℕ) → Step f u v → Step (d .row n) u v) → (n < 4 → Symmetric (Step f)) → Sound (setTable d n f)
+  table-fewer n f h fewer turn = sound-fewer d (setTable d n f)
+      (record {
+        beside = table-beside d n f h;
+        steps = table-cases d n f (λ m g. (u v : ℕ) → Step g u v → Step (d .row m) u v) fewer (λ m k u v e. e);
+        turns = table-cases d n f (λ m g. m < 4 → Symmetric (Step g)) turn (λ m k l. pairs-of d sound m l .rule2);
+      })
+      sound
+
+  module _ (a b c : ℕ) where
+    -- Kinds 15 to 17: one bit is taken from a table that is no pair table.
+    pub take-exact : {n : ℕ} {x y : Needs} → Held n x y → Exact d (takeBack n) a b c
+    unfolding change conflicts
+    take-exact {n} held =
+        let k = held-holding held in
+        unopposed d (takeBack n) a b c refl
+        (table-fewer n (takeFrom (d .row n) b a) (k .below) (take-old (d .row n) b a) (λ h. absurd (k .no-pairs h)))
+
+    -- Kinds 18 to 21: both bits of a pair are.
+    pub unrelate-exact : Sized d → a < 64 → b < 64 → (n : ℕ) → n < 4 → Exact d (unrelate n) a b c
+    unfolding change conflicts
+    unrelate-exact sized ha hb n h =
+        unopposed d (unrelate n) a b c refl
+        (table-fewer n (takePair (d .row n) a b) (omega arith) (pair-gone (d .row n) a b)
+        (λ l. pair-turns (d .row n) a b (sized .rows n) ha hb (pairs-of d sound n h .rule2)))

@@ -6,7 +6,7 @@ use Prim.Native.Nat.{ℕ, _+_, _-_, _≤_, _<_}
 use native.Mathlib.Omega.{arith}
 use Rattle.sets.specs.Search.{all}
 use Rattle.rules.specs.Book.{Book}
-use Rattle.rules.specs.Requests.{Deed, nothing, define, relate, assign, activate, openOrder, closeOrder, takeBack, Row, table, rowOf, change}
+use Rattle.rules.specs.Requests.{Deed, nothing, define, relate, assign, activate, openOrder, closeOrder, takeBack, unrelate, Row, table, rowOf, change}
 use Rattle.rules.specs.Numbers.{orElse, stateRefusal, conflicts, firstOf}
 use Rattle.rules.proofs.ChangeLaws.{asksNumber}
 use Rattle.rules.proofs.TableLaws.{kinds-from, deeds-from, no-kind-past}
@@ -74,6 +74,11 @@ module _ {before after : List ℕ} {a b c : ℕ} {r : Answer} where
   unfolding all rowOf table staffTables staffTable decide stateRefusal conflicts firstOf change
   from-take-back k l h s = of-kind k (deeds-from 15 3 (λ i. takeBack (staffTable i)) refl k l h) (settled-for refl refl s)
 
+  -- Kinds 18 to 21.
+  pub from-unrelate : (k : ℕ) → 18 ≤ k → k < 22 → Settled before after (unrelate (k - 18)) a b 0 r → OfKind before after a b c r k
+  unfolding all rowOf table decide stateRefusal conflicts firstOf change
+  from-unrelate k l h s = of-kind k (deeds-from 18 4 unrelate refl k l h) (settled-for refl refl s)
+
 -- No kind: 3, and the book is as it was.
 module _ {before : List ℕ} (a b c : ℕ) (full : Full before) where
   none-settled : Settled before before nothing a b c UnknownKind
@@ -86,6 +91,6 @@ module _ {before : List ℕ} (a b c : ℕ) (full : Full before) where
   from-none-below k h = let z : 0 ≡ k = omega arith in subst (OfKind before before a b c UnknownKind) z none-settled
 
   -- .. and past the last.
-  pub from-none-past : (k : ℕ) → 18 ≤ k → OfKind before before a b c UnknownKind k
+  pub from-none-past : (k : ℕ) → 22 ≤ k → OfKind before before a b c UnknownKind k
   unfolding table
   from-none-past k h = of-kind k (ap (λ (x : Row). x .deed) (no-kind-past k h)) none-settled

@@ -36,6 +36,7 @@ fn carry_out(book: &mut [u64], kind: u64, a: u64, b: u64, c: u64) -> Answer
         13 => orders::allocate(book, a, b, c),
         14 => orders::close_order(book, a),
         15..=17 => unopposed::take_back(book, staff_table(kind - 15), a, b),
+        18..=21 => pairs::unrelate(book, kind - 18, a, b),
         _ => Answer::UnknownKind,
     }
 }

@@ -1,2 +1,2 @@
-pub mod PairAdded
+pub mod PairStored
 pub mod PairAnswers

@@ -1,13 +1,29 @@
-// Kinds 4 to 7: add SME, DME, RB or SB between tasks a and b. The four pair tables share one deed, over the table.
+// Kinds 4 to 7: add SME, DME, RB or SB between tasks a and b; 18 to 21, in `back`, take it back. The four pair tables share each deed,
+// over the table.
+mod back;
+
 use answers::Answer;
+pub use back::unrelate;
 ghost use mathlib.Core.Path.{_≡_};
 ghost use Prim.Native.Nat.{_<_};
 ghost use Rattle.rules.specs.Book.{tableCount};
 ghost use Rattle.rules.specs.Requests.{relate};
-ghost use Rattle.rules.specs.Numbers.{stateRefusal, pairConflicts, firstOf};
+ghost use Rattle.rules.specs.Numbers.{whileOpen, stateRefusal, pairConflicts, firstOf};
 ghost use Rattle.book.specs.Slice.{tables, Full};
 ghost use Rattle.answers.specs.Answers.{said};
 ghost use Rattle.deeds.specs.Outcome.{decide, Settled};
+
+// 7 while an order is open.
+fn open_refusal(book: &[u64]) -> Answer
+    requires { ⌜ Full (now book) ⌝ }
+    ensures { λ r. ⌜ said r ≡ whileOpen (tables (now (book .entry))) ⌝ }
+{
+    let order = search::lowest_open(book);
+    if order < 64 {
+        return Answer::OrderOpen(order);
+    }
+    Answer::Accepted
+}
 
 // 5 where the pair is set already, 7 while an order is open.
 fn pair_refusal(book: &[u64], table: u64, a: u64, b: u64) -> Answer
@@ -17,11 +33,7 @@ fn pair_refusal(book: &[u64], table: u64, a: u64, b: u64) -> Answer
     if book::is_in_row(book, table, a, b) {
         return Answer::AlreadySet;
     }
-    let order = search::lowest_open(book);
-    if order < 64 {
-        return Answer::OrderOpen(order);
-    }
-    Answer::Accepted
+    open_refusal(book)
 }
 
 // What conflicts with the new pair, by the table. A table that has no pairs is refused.

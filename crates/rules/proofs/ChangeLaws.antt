@@ -1,4 +1,4 @@
--- What the table of seventeen rows asks for, and that every change keeps the book in its place:
+-- What the fixed table of kinds asks for, and that every change keeps the book in its place:
 -- 64 rows of 64-bit words in each table, nothing outside, so that the changed book is what its words say.
 -- The table is gone through once, in `known-row`; after that a law goes by what a kind does, with the table as a number.
 use mathlib.Core.Path.{_≡_, refl, sym, _∙_, subst}
@@ -16,7 +16,7 @@ use Rattle.sets.proofs.Logic.{and-out, refute}
 use Rattle.sets.proofs.MaskLaws.{with-lt, without-lt, within-lt, bit-lt, both-out}
 use Rattle.rules.specs.Book.{Book, headWords, tableCount, tasks, SME, DME, RB, SB, juniors, tasksOf, rolesOf, active, orders, read, write}
 use Rattle.rules.specs.Trade.{roleGroup}
-use Rattle.rules.specs.Requests.{Request, define, relate, assign, activate, openOrder, allocate, closeOrder, takeBack, Needs, unused, inRange}
+use Rattle.rules.specs.Requests.{Request, define, relate, assign, activate, openOrder, allocate, closeOrder, takeBack, unrelate, Needs, unused, inRange}
 use Rattle.rules.specs.Requests.{aTask, aRole, aSubject, anOpenOrder, aTaskMask, Row, asks, noRow, table, rowOf, isOpen, fits, setRow, addTo}
 use Rattle.rules.specs.Requests.{takeFrom, setHead, setTable, setOrder, setActive, firstActive, assigned, roleHand, subjectHand, stampedCell}
 use Rattle.rules.specs.Requests.{allocated, change}
@@ -44,8 +44,9 @@ pub data Known : Row → Type 0 where
   allocates : Known (asks allocate aTask anOpenOrder aSubject)
   closes : Known (asks closeOrder anOpenOrder unused unused)
   takes-back : {n : ℕ} {x y : Needs} → Held n x y → Known (asks (takeBack n) x y unused)
+  unrelates : (n : ℕ) → n < 4 → Known (asks (unrelate n) aTask aTask unused)
 
--- Every kind has such a row; outside 1..17 it is that of no kind.
+-- Every kind has such a row; outside 1..21 it is that of no kind.
 pub known-row : (k : ℕ) → Known (rowOf k)
 unfolding rowOf table
 known-row k = go (decLt k (length table))
@@ -58,6 +59,7 @@ known-row k = go (decLt k (length table))
         next assigns a-task next assigns a-junior next assigns a-role
         next activates next opens next allocates next closes
         next takes-back a-task next takes-back a-junior next takes-back a-role
+        next unrelates SME (omega arith) next unrelates DME (omega arith) next unrelates RB (omega arith) next unrelates SB (omega arith)
 
     go : Dec (k < length table) → Known (rowOf k)
     go (yes h) = upto-at rows k h
@@ -84,17 +86,18 @@ fits-lt d aSubject v n e = ltb-true v 64 (and-out (ltb v 64) _ e .0)
 fits-lt d anOpenOrder v n e = ltb-true v 64 (and-out (ltb v 64) (isOpen d v) e .0)
 fits-lt d aTaskMask v n e = absurd (true≢false (sym n))
 
--- What is held and who holds it are numbers, and the table is one of the nine.
+-- What is held and who holds it are numbers, and the table is no pair table and comes before the active roles.
 pub record Holding (n : ℕ) (x y : Needs) : Type 0 where
   pub thing : asksNumber x ≡ true
   pub holder : asksNumber y ≡ true
-  pub table : n < tableCount
+  pub no-pairs : n < 4 → ⊥
+  pub below : n < active
 
 -- So it is of each of the three tables.
 pub held-holding : {n : ℕ} {x y : Needs} → Held n x y → Holding n x y
-held-holding a-task = record { thing = refl; holder = refl; table = omega arith }
-held-holding a-junior = record { thing = refl; holder = refl; table = omega arith }
-held-holding a-role = record { thing = refl; holder = refl; table = omega arith }
+held-holding a-task = record { thing = refl; holder = refl; no-pairs = λ h. omega arith; below = omega arith }
+held-holding a-junior = record { thing = refl; holder = refl; no-pairs = λ h. omega arith; below = omega arith }
+held-holding a-role = record { thing = refl; holder = refl; no-pairs = λ h. omega arith; below = omega arith }
 
 -- A statement of rows of which one is changed, from that row and from the others.
 pub set-cases : (rows : ℕ → ℕ) (b v : ℕ) (P : ℕ → ℕ → Type 0) → P b v → ((s : ℕ) → (s ≡ b → ⊥) → P s (rows s))
@@ -105,6 +108,15 @@ set-cases rows b v P p q s = go (eqb s b) refl
     go : (t : Bool) → eqb s b ≡ t → P s (elim t [ true ↦ v | false ↦ rows s ])
     go true e = subst (λ (x : ℕ). P x v) (sym (eqb-true s b e)) p
     go false e = q s (eqb-false s b e)
+
+-- A statement of tables of which one is changed, from that table and from the others.
+pub table-cases : (d : Book) (n : ℕ) (f : ℕ → ℕ) (P : ℕ → (ℕ → ℕ) → Type 0) → P n f → ((m : ℕ) → (m ≡ n → ⊥) → P m (d .row m))
+    → (m : ℕ) → P m (setTable d n f .row m)
+table-cases d n f P p q m = go (eqb m n) refl
+  where
+    go : (t : Bool) → eqb m n ≡ t → P m (elim t [ true ↦ f | false ↦ d .row m ])
+    go true e = subst (λ (x : ℕ). P x f) (sym (eqb-true m n e)) p
+    go false e = q m (eqb-false m n e)
 
 -- A table stays 64 rows of words where one row is set ..
 pub set-tall : {rows : ℕ → ℕ} (b v : ℕ) → Tall rows → b < 64 → v < 2 ^ 64 → Tall (setRow rows b v)
@@ -148,21 +160,12 @@ module _ (d : Book) (s : Sized d) where
 
   table-keeps : (n : ℕ) (f : ℕ → ℕ) → n < tableCount → Tall f → Keeps d (setTable d n f)
   table-keeps n f h t = record {
-    sized = record { head = s .head; rows = λ m. tall m (eqb m n); cells = s .cells };
+    sized = record { head = s .head; rows = table-cases d n f (λ m g. Tall g) t (λ m k. s .rows m); cells = s .cells };
     placed = λ p. record {
       head-ends = p .head-ends;
-      tables-end = λ m r l. outside m r l (p .tables-end m r l) (eqb m n) refl;
+      tables-end = λ m r. table-cases d n f (λ m g. tableCount ≤ m → g r ≡ 0) (λ l. absurd (omega arith)) (λ m k. p .tables-end m r) m;
     };
   }
-    where
-      tall : (m : ℕ) (b : Bool) → Tall (elim b [ true ↦ f | false ↦ d .row m ])
-      tall m true = t
-      tall m false = s .rows m
-
-      outside : (m r : ℕ) → tableCount ≤ m → d .row m r ≡ 0 → (b : Bool) → eqb m n ≡ b
-          → (elim b as (λ (x : Bool). ℕ → ℕ) [ true ↦ f | false ↦ d .row m ]) r ≡ 0
-      outside m r l z true e = let q = eqb-true m n e in absurd (omega arith)
-      outside m r l z false e = z
 
   active-keeps : (a b : ℕ) → a < 64 → b < 64 → Keeps d (setActive d a b)
   active-keeps a b ha hb = table-keeps active _ (omega arith) (set-tall b (suc a) (s .rows active) hb (omega arith))
@@ -234,7 +237,8 @@ module _ (d : Book) (s : Sized d) (a b c : ℕ) where
       table-keeps d s n _ (omega arith) (add-tall b a (add-tall a b (s .rows n) ha hb) hb ha)
   change-keeps (assigns {n = n} {x = x} {y = y} h) f =
       let k = held-holding h in
-      assign-keeps n (k .table) (fits-lt d x a (k .thing) (f .first)) (fits-lt d y b (k .holder) (f .second))
+      let low = k .below in
+      assign-keeps n (omega arith) (fits-lt d x a (k .thing) (f .first)) (fits-lt d y b (k .holder) (f .second))
   change-keeps activates f = active-keeps d s a b (fits-lt d aRole a refl (f .first)) (fits-lt d aSubject b refl (f .second))
   change-keeps opens f =
       let known = and-out (not (eqb c 0)) (within c (tasks d)) (f .third) .1 in
@@ -243,7 +247,12 @@ module _ (d : Book) (s : Sized d) (a b c : ℕ) where
   change-keeps closes f = order-keeps d s a 0 (fits-lt d anOpenOrder a refl (f .first)) (pow-pos 64)
   change-keeps (takes-back {n = n} {x = x} {y = y} h) f =
       let k = held-holding h in
-      table-keeps d s n _ (k .table) (take-tall b a (s .rows n) (fits-lt d y b (k .holder) (f .second)))
+      let low = k .below in
+      table-keeps d s n _ (omega arith) (take-tall b a (s .rows n) (fits-lt d y b (k .holder) (f .second)))
+  change-keeps (unrelates n h) f =
+      let ha = fits-lt d aTask a refl (f .first) in
+      let hb = fits-lt d aTask b refl (f .second) in
+      table-keeps d s n _ (omega arith) (take-tall a b (take-tall b a (s .rows n) hb) ha)
 
 -- The blind change of a request that is not refused: 64 rows of 64-bit words in each table ..
 module _ {d : Book} (q : Request) (s : Sized d) (e : refusal d q ≡ accepted) where

@@ -1,4 +1,4 @@
--- What a run of kinds does, by one computed test over the table of seventeen rows.
+-- What a run of kinds does, by one computed test over the fixed table of kinds.
 -- Deeds are compared by their place in a list and by their table.
 use mathlib.Core.Path.{_≡_, refl, sym, ap₂, _∙_, subst}
 use mathlib.Core.Bool.{Bool, true, _&&_}
@@ -11,11 +11,12 @@ use borrow.Author.Tests.{eqb-true}
 use Rattle.sets.specs.Search.{all}
 use Rattle.sets.proofs.Logic.{and-out}
 use Rattle.sets.proofs.SearchLaws.{all-out}
-use Rattle.rules.specs.Requests.{Deed, nothing, define, relate, assign, activate, openOrder, allocate, closeOrder, takeBack, noRow, table, rowOf}
+use Rattle.rules.specs.Requests.{Deed, nothing, define, relate, assign, activate, openOrder, allocate, closeOrder, takeBack, unrelate}
+use Rattle.rules.specs.Requests.{noRow, table, rowOf}
 
 -- Every deed, given its table; those without one ignore it.
 deeds : List (ℕ → Deed)
-deeds = (λ n. nothing) ∷ define ∷ relate ∷ assign ∷ (λ n. activate) ∷ (λ n. openOrder) ∷ (λ n. allocate) ∷ (λ n. closeOrder) ∷ takeBack ∷ []
+deeds = (λ n. nothing) ∷ define ∷ relate ∷ assign ∷ (λ n. activate) ∷ (λ n. openOrder) ∷ (λ n. allocate) ∷ (λ n. closeOrder) ∷ takeBack ∷ unrelate ∷ []
 
 -- the place of a deed in the list, and its table
 abbrev Code : Type 0
@@ -31,6 +32,7 @@ codeOf openOrder = (5, 0)
 codeOf allocate = (6, 0)
 codeOf closeOrder = (7, 0)
 codeOf (takeBack n) = (8, n)
+codeOf (unrelate n) = (9, n)
 
 deedAt : ℕ → ℕ → Deed
 unfolding deeds
@@ -48,6 +50,7 @@ back openOrder = refl
 back allocate = refl
 back closeOrder = refl
 back (takeBack n) = refl
+back (unrelate n) = refl
 
 abbrev pub sameDeed : Deed → Deed → Bool
 sameDeed k l = eqb (codeOf k .0) (codeOf l .0) && eqb (codeOf k .1) (codeOf l .1)

@@ -1,4 +1,4 @@
--- What holds of each number below n, said one by one: of the seventeen kinds, the nine tables, the ten rules.
+-- What holds of each number below n, said one by one: of the kinds, the nine tables, the ten rules.
 use mathlib.Core.Path.{_≡_, subst}
 use Prim.Native.Nat.{ℕ, zero, suc, _+_, _≤_, _<_}
 use native.Mathlib.Omega.{arith}

@@ -1,4 +1,4 @@
--- Document 01, "The numbers that come back": refusals 1 to 11, the conflicts 20 to 34, the answer and the book afterwards.
+-- Document 01, "The numbers that come back", with M-100: refusals 1 to 11, the conflicts 20 to 34, the answer and the book afterwards.
 use mathlib.Core.Bool.{Bool, true, false, _&&_, not}
 use mathlib.Core.List.{List, [], _∷_}
 use Prim.Native.Nat.{ℕ, suc, _-_, _^_}
@@ -7,7 +7,7 @@ use Rattle.sets.specs.Mask.{bit, meet, only, joined}
 use Rattle.sets.specs.Search.{lowest, paired}
 use Rattle.rules.specs.Book.{Book, bookWords, SME, DME, RB, SB, juniors, tasksOf, rolesOf, active, orders, roleIn, subjectIn, read, write, firstBad}
 use Rattle.rules.specs.Trade.{Owner, role, subject, reach, ownsRole, ownedTasks, subjectGroup, roleGroup}
-use Rattle.rules.specs.Requests.{Request, Deed, nothing, define, relate, assign, activate, openOrder, allocate, closeOrder, takeBack}
+use Rattle.rules.specs.Requests.{Request, Deed, nothing, define, relate, assign, activate, openOrder, allocate, closeOrder, takeBack, unrelate}
 use Rattle.rules.specs.Requests.{Row, rowOf, fits, isOpen, roleHand, subjectHand, change}
 
 -- What an answer names beside its number: x and y, which are 0 where nothing is said.
@@ -94,18 +94,23 @@ allocateRefusal d a b c =
     (given (not (activeOwned d c)) (say 8)
     (cellRefusal d a b (d .row active c)))
 
--- 3, and 5 to 11, of a kind whose arguments fit. 3: a kind outside 1..17, whose row asks for nothing, so that no 4 comes before it.
+-- 7, kinds 4 to 7 and 18 to 21: some order is open; x = lowest
+abbrev pub whileOpen : Book → Said
+whileOpen d = givenLowest 7 (isOpen d) accepted
+
+-- 3, and 5 to 11, of a kind whose arguments fit. 3: a kind outside 1..21, whose row asks for nothing, so that no 4 comes before it.
 -- In kind 13 the second half of 4 comes first.
 unfoldable pub stateRefusal : Book → Deed → ℕ → ℕ → ℕ → Said
 stateRefusal d nothing a b c = say 3
 stateRefusal d (define n) a b c = given (bit (d .head n) a) (say 5) accepted
-stateRefusal d (relate n) a b c = given (bit (d .row n a) b) (say 5) (givenLowest 7 (isOpen d) accepted)
+stateRefusal d (relate n) a b c = given (bit (d .row n a) b) (say 5) (whileOpen d)
 stateRefusal d (assign n) a b c = given (bit (d .row n b) a) (say 5) accepted
 stateRefusal d activate a b c = given (not (ownsRole d (subject d b) a)) (say 8) accepted
 stateRefusal d openOrder a b c = given (isOpen d a) (say 5) accepted
 stateRefusal d allocate a b c = allocateRefusal d a b c
 stateRefusal d closeOrder a b c = accepted
 stateRefusal d (takeBack n) a b c = given (not (bit (d .row n b) a)) (say 6) accepted
+stateRefusal d (unrelate n) a b c = given (not (bit (d .row n a) b)) (say 6) (whileOpen d)
 
 -- 3 to 11
 unfoldable pub refusal : Book → Request → Said
@@ -263,6 +268,7 @@ conflicts openOrder c = []
 conflicts allocate c = heldConflicts c
 conflicts closeOrder c = []
 conflicts (takeBack n) c = []
+conflicts (unrelate n) c = []
 
 -- the first that is given, in the order listed; the rest is computed only where it is asked
 unfoldable pub firstOf : List Conflict → Book → ℕ → ℕ → Said

@@ -1,4 +1,4 @@
--- Document 01, "Requests": the seventeen kinds, the fixed table of what each argument must be, and the change of each kind.
+-- Document 01, "Requests", with M-100: the twenty-one kinds, the fixed table of what each argument must be, and the change of each kind.
 use mathlib.Core.Bool.{Bool, true, false, _&&_, not}
 use mathlib.Core.List.{List, [], _∷_}
 use Prim.Native.Nat.{ℕ, zero, suc}
@@ -18,7 +18,7 @@ pub record Request : Type 0 where
 
 -- What a kind does; kinds that do the same to different tables are one case, with the table.
 pub data Deed : Type 0 where
-  -- no kind of 1..17
+  -- no kind of 1..21
   nothing : Deed
   -- 1, 2, 3: define task a, role a, subject a (the word of the head)
   define : ℕ → Deed
@@ -36,6 +36,8 @@ pub data Deed : Type 0 where
   closeOrder : Deed
   -- 15, 16, 17: take back what 8, 9, 10 added
   takeBack : ℕ → Deed
+  -- 18, 19, 20, 21: take back SME, DME, RB, SB between tasks a and b (the pair table)
+  unrelate : ℕ → Deed
 
 -- What an argument must be.
 pub data Needs : Type 0 where
@@ -53,7 +55,7 @@ asks k a b c = record { deed = k; a = a; b = b; c = c }
 abbrev pub noRow : Row
 noRow = asks nothing unused unused unused
 
--- The one fixed table of seventeen rows; row 0 is no kind.
+-- The one fixed table of twenty-one rows; row 0 is no kind.
 unfoldable pub table : List Row
 table =
     noRow
@@ -74,6 +76,10 @@ table =
     ∷ asks (takeBack tasksOf) aTask aRole unused
     ∷ asks (takeBack juniors) aRole aRole unused
     ∷ asks (takeBack rolesOf) aRole aSubject unused
+    ∷ asks (unrelate SME) aTask aTask unused
+    ∷ asks (unrelate DME) aTask aTask unused
+    ∷ asks (unrelate RB) aTask aTask unused
+    ∷ asks (unrelate SB) aTask aTask unused
     ∷ []
 
 unfoldable pub rowOf : ℕ → Row
@@ -106,6 +112,9 @@ takeFrom rows r i = setRow rows r (without (rows r) i)
 -- both bits of a pair
 abbrev pub addPair : (ℕ → ℕ) → ℕ → ℕ → ℕ → ℕ
 addPair rows a b = addTo (addTo rows a b) b a
+
+abbrev pub takePair : (ℕ → ℕ) → ℕ → ℕ → ℕ → ℕ
+takePair rows a b = takeFrom (takeFrom rows b a) a b
 
 -- .. and one table of the book.
 abbrev pub setHead : Book → (ℕ → ℕ) → Book
@@ -170,3 +179,4 @@ change d openOrder a b c = setOrder d a c
 change d allocate a b c = allocated d a b c
 change d closeOrder a b c = setOrder d a 0
 change d (takeBack n) a b c = setTable d n (takeFrom (d .row n) b a)
+change d (unrelate n) a b c = setTable d n (takePair (d .row n) a b)

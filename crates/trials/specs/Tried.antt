@@ -4,6 +4,7 @@ use lib.Dec.{T}
 use Rattle.rules.specs.Computed.{computed}
 use Rattle.trials.specs.Trial.{fair, allFair, noneFair}
 use Rattle.trials.specs.Pairs.{exclusions, bindings}
+use Rattle.trials.specs.PairsBack.{pairsBack}
 use Rattle.trials.specs.Staff.{assignments}
 use Rattle.trials.specs.Orders.{hands}
 use Rattle.trials.specs.Guarded.{guarded}
@@ -15,6 +16,10 @@ exclusions-fair = tt
 pub bindings-fair : T (allFair bindings)
 unfolding computed fair
 bindings-fair = tt
+
+pub pairs-back-fair : T (allFair pairsBack)
+unfolding computed fair
+pairs-back-fair = tt
 
 pub assignments-fair : T (allFair assignments)
 unfolding computed fair

@@ -7,7 +7,7 @@ use Rattle.rules.specs.Requests.{table, rowOf}
 use Rattle.rules.proofs.Upto.{past}
 use Rattle.book.specs.Slice.{tables}
 use Rattle.desk.proofs.KindRanges.{a-lt, b-lt, c-lt, from-define, from-relate, from-assign, from-activate, from-open, from-close}
-use Rattle.desk.proofs.KindRanges.{from-take-back, from-none-below, from-none-past}
+use Rattle.desk.proofs.KindRanges.{from-take-back, from-unrelate, from-none-below, from-none-past}
 use borrow.Author.Needs.{needs}
 use Rattle.desk.proofs.carry_out.Statement.{statement}
 use Rattle.desk.proofs.carry_out.Tie as tie
@@ -112,6 +112,17 @@ take-back-requires c κs =
     low (c .before .before .if5 .taken) refl in
     (search needs, c .staff-table2 .ensures .1, a, b)
 
+unrelate-requires : tie.Need-unrelate-requires
+unfolding all rowOf table
+unrelate-requires c κs =
+    let s = c .before .before .before .before .before .before .before .before .before .args in
+    let d = tables (s .book .now) in
+    let a = a-lt d (s .kind) (s .a) (s .b) (s .c) (c .before .before .before .before .before .before .before .before .before .pre .1) 18 4
+    (c .before .before .if5 .left) (c .before .if6 .taken) refl in
+    let b = b-lt d (s .kind) (s .a) (s .b) (s .c) (c .before .before .before .before .before .before .before .before .before .pre .1) 18 4
+    (c .before .before .if5 .left) (c .before .if6 .taken) refl in
+    (search needs, omega arith, a, b)
+
 same-length : tie.Need-same-length
 same-length c = search needs
 
@@ -173,11 +184,19 @@ returns-8 c =
     from-take-back _ low (c .before .before .before .before .before .if5 .taken)
     (rw (c .before .before .before .staff-table2 .ensures .0) at (c .before .before .take-back .ensures))
 
+same-length-9 : tie.Need-same-length-9
+same-length-9 c = search needs
+
 returns-9 : tie.Need-returns-9
-returns-9 c = from-none-below _ _ _ (c .before .before .before .pre .0) _ (c .if1 .taken)
+returns-9 c =
+    from-unrelate _ (c .before .before .before .before .before .if5 .left) (c .before .before .before .before .if6 .taken)
+    (c .before .before .unrelate .ensures)
 
 returns-10 : tie.Need-returns-10
-returns-10 c = from-none-past _ _ _ (c .before .before .before .before .before .before .before .pre .0) _ (c .if5 .left)
+returns-10 c = from-none-below _ _ _ (c .before .before .before .pre .0) _ (c .if1 .taken)
+
+returns-11 : tie.Need-returns-11
+returns-11 c = from-none-past _ _ _ (c .before .before .before .before .before .before .before .before .pre .0) _ (c .if6 .left)
 
 pub carry-out-spec : {M : Type 1} → statement M
 carry-out-spec =
@@ -194,6 +213,7 @@ carry-out-spec =
     sub-staff-table
     staff-table-requires-2
     take-back-requires
+    unrelate-requires
     same-length
     returns
     same-length-2
@@ -210,5 +230,7 @@ carry-out-spec =
     returns-7
     same-length-8
     returns-8
+    same-length-9
     returns-9
-    returns-10)
+    returns-10
+    returns-11)

@@ -4,7 +4,7 @@ use native.Mathlib.Omega.{arith}
 use Rattle.rules.specs.Requests.{change}
 use Rattle.book.specs.Slice.{Full}
 use Rattle.deeds.proofs.OutcomeLaws.{settled-changed, settled-kept}
-use Rattle.pairs.proofs.PairAdded.{pair-added}
+use Rattle.pairs.proofs.PairStored.{pair-added}
 use borrow.Author.Needs.{needs}
 use Rattle.pairs.proofs.relate.Statement.{statement}
 use Rattle.pairs.proofs.relate.Tie as tie
