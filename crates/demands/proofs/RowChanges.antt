@@ -110,6 +110,10 @@ module _ (rows : ℕ → ℕ) (a b : ℕ) where
   pub pair-two : (T : ℕ) → Pairs T (addPair rows a b) → a ≡ b → ⊥
   pair-two T now q = now .rule1 a (subst (λ (x : ℕ). Step (addPair rows a b) a x) (sym q) (pair-adds .into a b there))
 
+-- Number a is taken from row b: no step is new.
+pub take-old : (rows : ℕ → ℕ) (b a u v : ℕ) → Step (takeFrom rows b a) u v → Step rows u v
+take-old rows b a = set-cases rows b (without (rows b) a) (λ s x. (v : ℕ) → In x v → Step rows s v) (without-old (rows b) a) (λ s n v e. e)
+
 -- A number that was taken from a set is not in it ..
 without-gone : (m a : ℕ) → a < 64 → In (without m a) a → ⊥
 without-gone m a h e = not-out (eqb a a) (and-out (bit m a) (not (eqb a a)) (sym (bit-without m a a h h) ∙ e) .1) (eq-eqb a a refl)
@@ -122,13 +126,8 @@ without-kept m a i h l e n = bit-without m a i h l ∙ and-in e (not-in (eqb a i
 abbrev Other : ℕ → ℕ → Relation
 Other b a u v = u ≡ b → v ≡ a → ⊥
 
--- Number a is taken from row b.
 module _ (rows : ℕ → ℕ) (b a : ℕ) where
-  -- No step is new.
-  pub take-old : (u v : ℕ) → Step (takeFrom rows b a) u v → Step rows u v
-  take-old = set-cases rows b (without (rows b) a) (λ s x. (v : ℕ) → In x v → Step rows s v) (without-old (rows b) a) (λ s n v e. e)
-
-  -- The step from b to a is gone ..
+  -- So the step from b to a is gone ..
   take-gone : a < 64 → (u v : ℕ) → Step (takeFrom rows b a) u v → Other b a u v
   take-gone ha =
       set-cases rows b (without (rows b) a) (λ s x. (v : ℕ) → In x v → Other b a s v)

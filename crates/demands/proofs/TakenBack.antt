@@ -34,30 +34,30 @@ pairs-of d sound (suc (suc zero)) h = sound .bindings .rb
 pairs-of d sound (suc (suc (suc zero))) h = sound .bindings .sb
 pairs-of d sound (suc (suc (suc (suc n)))) h = absurd (omega arith)
 
-module _ (d : Book) (sound : Sound d) where
-  -- A book stays sound where one of these tables has fewer steps, and still runs both ways if it is a pair table.
-  table-fewer : (n : ℕ) (f : ℕ → ℕ) → n < active → ((u v : ℕ) → Step f u v → Step (d .row n) u v) → (n < 4 → Symmetric (Step f)) → Sound (setTable d n f)
-  table-fewer n f h fewer turn = sound-fewer d (setTable d n f)
-      (record {
-        beside = table-beside d n f h;
-        steps = table-cases d n f (λ m g. (u v : ℕ) → Step g u v → Step (d .row m) u v) fewer (λ m k u v e. e);
-        turns = table-cases d n f (λ m g. m < 4 → Symmetric (Step g)) turn (λ m k l. pairs-of d sound m l .rule2);
-      })
-      sound
+-- A sound book stays sound where one of these tables has fewer steps, and still runs both ways if it is a pair table.
+table-fewer : (d : Book) → Sound d → (n : ℕ) (f : ℕ → ℕ) → n < active → ((u v : ℕ) → Step f u v → Step (d .row n) u v)
+    → (n < 4 → Symmetric (Step f)) → Sound (setTable d n f)
+table-fewer d sound n f h fewer turn = sound-fewer d (setTable d n f)
+    (record {
+      beside = table-beside d n f h;
+      steps = table-cases d n f (λ m g. (u v : ℕ) → Step g u v → Step (d .row m) u v) fewer (λ m k u v e. e);
+      turns = table-cases d n f (λ m g. m < 4 → Symmetric (Step g)) turn (λ m k l. pairs-of d sound m l .rule2);
+    })
+    sound
 
-  module _ (a b c : ℕ) where
-    -- Kinds 15 to 17: one bit is taken from a table that is no pair table.
-    pub take-exact : {n : ℕ} {x y : Needs} → Held n x y → Exact d (takeBack n) a b c
-    unfolding change conflicts
-    take-exact {n} held =
-        let k = held-holding held in
-        unopposed d (takeBack n) a b c refl
-        (table-fewer n (takeFrom (d .row n) b a) (k .below) (take-old (d .row n) b a) (λ h. absurd (k .no-pairs h)))
+module _ (d : Book) (sound : Sound d) (a b c : ℕ) where
+  -- Kinds 15 to 17: one bit is taken from a table that is no pair table.
+  pub take-exact : {n : ℕ} {x y : Needs} → Held n x y → Exact d (takeBack n) a b c
+  unfolding change conflicts
+  take-exact {n} held =
+      let k = held-holding held in
+      unopposed d (takeBack n) a b c refl
+      (table-fewer d sound n (takeFrom (d .row n) b a) (k .below) (take-old (d .row n) b a) (λ h. absurd (k .no-pairs h)))
 
-    -- Kinds 18 to 21: both bits of a pair are.
-    pub unrelate-exact : Sized d → a < 64 → b < 64 → (n : ℕ) → n < 4 → Exact d (unrelate n) a b c
-    unfolding change conflicts
-    unrelate-exact sized ha hb n h =
-        unopposed d (unrelate n) a b c refl
-        (table-fewer n (takePair (d .row n) a b) (omega arith) (pair-gone (d .row n) a b)
-        (λ l. pair-turns (d .row n) a b (sized .rows n) ha hb (pairs-of d sound n h .rule2)))
+  -- Kinds 18 to 21: both bits of a pair are.
+  pub unrelate-exact : Sized d → a < 64 → b < 64 → (n : ℕ) → n < 4 → Exact d (unrelate n) a b c
+  unfolding change conflicts
+  unrelate-exact sized ha hb n h =
+      unopposed d (unrelate n) a b c refl
+      (table-fewer d sound n (takePair (d .row n) a b) (omega arith) (pair-gone (d .row n) a b)
+      (λ l. pair-turns (d .row n) a b (sized .rows n) ha hb (pairs-of d sound n h .rule2)))
