@@ -16,7 +16,8 @@ use Rattle.rules.specs.Numbers.{accepted, givenLowest, activeOwned, allocateRef
 use Rattle.rules.specs.Meaning.{Sized, Sound}
 use Rattle.rules.proofs.SaidLaws.{said-not-accepted}
 use Rattle.rules.proofs.NumberLaws.{given-out, lowest-out, Fitting}
-use Rattle.rules.proofs.ChangeLaws.{Known, no-kind, defines, relates, assigns, activates, opens, allocates, closes, takes-back, unrelates, a-task, a-junior, a-role}
+use Rattle.rules.proofs.ChangeLaws.{Known, no-kind, defines, relates, assigns, activates, opens, allocates, closes, takes-back, unrelates}
+use Rattle.rules.proofs.ChangeLaws.{a-task, a-junior, a-role}
 use Rattle.rules.proofs.TradeLaws.{step-from}
 use Rattle.demands.proofs.Conflicts.{Exact}
 use Rattle.demands.proofs.PairKinds.{relate-exact}
