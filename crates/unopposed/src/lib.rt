@@ -1,4 +1,4 @@
-// The kinds that nothing conflicts with: define a task, a role or a subject (1 to 3), activate a role (11),
+// Kinds that nothing conflicts with: define a task, a role or a subject (1 to 3), activate a role (11),
 // take back what 8, 9 and 10 added (15 to 17).
 use answers::Answer;
 ghost use Prim.Native.Nat.{_<_};
