@@ -24,4 +24,4 @@ rm -f "$own_log"
 reaches_all() { # SEED COUNT
     tools/witness cases "$1" "$2" | tools/witness count | grep -qx 'missing: none'
 }
-holds "20,000 cases reach every number that document 01 allows, for each kind and the audit" reaches_all 1 20000
+holds "20,000 cases reach every number that the documents allow, for each kind and the audit" reaches_all 1 20000

@@ -24,7 +24,7 @@ pub fn audit(words: &[u64]) -> Answer {
 pub fn rule_holds(book: &Book, rule: u64) -> bool {
     match rule {
         1 => no_task_in_its_own_row(book),
-        2 => pair_tables(book).iter().all(|table| is_symmetric(table)),
+        2 => book.pair_tables().iter().all(|table| is_symmetric(table)),
         3 => (0..64).all(|u| book.sme[u].and(&book.dme[u]).is_empty()),
         4 => (0..64).all(|u| book.sme[u].and(&role_group(book, u)).is_empty()),
         5 => (0..64).all(|u| book.dme[u].and(&subject_group(book, u)).is_empty()),
@@ -37,12 +37,8 @@ pub fn rule_holds(book: &Book, rule: u64) -> bool {
     }
 }
 
-fn pair_tables(book: &Book) -> [&Table; 4] {
-    [&book.sme, &book.dme, &book.rb, &book.sb]
-}
-
 fn no_task_in_its_own_row(book: &Book) -> bool {
-    pair_tables(book).iter().all(|table| (0..64).all(|t| !table[t].has(t)))
+    book.pair_tables().iter().all(|table| (0..64).all(|t| !table[t].has(t)))
 }
 
 fn is_symmetric(table: &Table) -> bool {

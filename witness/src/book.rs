@@ -77,6 +77,15 @@ impl Book {
         words
     }
 
+    /// The four pair tables: SME, DME, RB, SB.
+    pub fn pair_tables(&self) -> [&Table; 4] {
+        [&self.sme, &self.dme, &self.rb, &self.sb]
+    }
+
+    pub fn pair_tables_mut(&mut self) -> [&mut Table; 4] {
+        [&mut self.sme, &mut self.dme, &mut self.rb, &mut self.sb]
+    }
+
     /// "0 means the order isn't open."
     pub fn is_open(&self, order: usize) -> bool {
         !self.orders[order].is_empty()

@@ -3,12 +3,13 @@
 use std::collections::BTreeMap;
 use std::io::{BufRead, Result, Write};
 
+use crate::request::LAST_KIND;
 use crate::stream::{each_command, Command, Desk};
 
-/// Kinds outside 1 to 17 are counted together under this number.
+/// What is no kind is counted together under this number.
 const OTHER: u64 = 0;
 
-/// The numbers that the document allows for a kind, each of which some book and request shows.
+/// The numbers that the documents allow for a kind, each of which some book and request shows.
 pub fn allowed_numbers(kind: u64) -> Vec<u64> {
     let special: &[u64] = match kind {
         1..=3 => &[0, 4, 5],
@@ -24,6 +25,7 @@ pub fn allowed_numbers(kind: u64) -> Vec<u64> {
         13 => &[0, 4, 8, 9, 10, 11, 33, 34],
         14 => &[0, 4],
         15..=17 => &[0, 4, 6],
+        18..=21 => &[0, 4, 6, 7],
         _ => &[3],
     };
     let mut numbers = vec![1, 2];
@@ -36,7 +38,7 @@ pub fn allowed_numbers(kind: u64) -> Vec<u64> {
 pub fn allowed_places(kind: u64) -> &'static [u64] {
     match kind {
         1..=3 | 14 => &[1],
-        4..=11 | 15..=17 => &[1, 2],
+        4..=11 | 15..=21 => &[1, 2],
         12 => &[1, 3],
         13 => &[1, 2, 3],
         _ => &[],
@@ -75,7 +77,7 @@ impl Tally {
     }
 
     fn add_request(&mut self, kind: u64, number: u64, x: u64) {
-        let kind = if kind > 17 { OTHER } else { kind };
+        let kind = if kind > LAST_KIND { OTHER } else { kind };
         *self.requests.entry((kind, number)).or_default() += 1;
         if number == 4 {
             *self.places.entry((kind, x)).or_default() += 1;
@@ -85,7 +87,7 @@ impl Tally {
     /// What is allowed and never occurred, in words.
     pub fn missing(&self) -> Vec<String> {
         let mut missing = Vec::new();
-        for kind in 0..=17 {
+        for kind in 0..=LAST_KIND {
             for number in allowed_numbers(kind).into_iter().filter(|&n| !self.requests.contains_key(&(kind, n))) {
                 missing.push(format!("{} number {number}", kind_name(kind)));
             }
@@ -113,7 +115,7 @@ impl Tally {
 
     /// Prints the table; the last lines say what is missing.
     pub fn print(&self, output: &mut impl Write) -> Result<()> {
-        for kind in (1..=17).chain([OTHER]) {
+        for kind in (1..=LAST_KIND).chain([OTHER]) {
             write!(output, "{:8}", kind_name(kind))?;
             for (&(_, number), times) in self.requests.range((kind, 0)..=(kind, u64::MAX)) {
                 write!(output, "  {number}:{times}")?;

@@ -1,4 +1,4 @@
-//! "Requests" and "The numbers that come back": refusals 1 to 11, the conflicts, and the change.
+//! "Requests" and "The numbers that come back", with the kinds of M-100: refusals 1 to 11, the conflicts, the change.
 
 use crate::book::{lowest_bad_word, Book, Cell, Table, EMPTY_CELL, WORDS};
 use crate::set::Set;
@@ -6,6 +6,9 @@ use crate::trade::{
     reached, role_group, roles_owned_by_subject, subject_group, tasks_owned_by_role, tasks_owned_by_subject,
 };
 use crate::{Answer, ACCEPTED};
+
+/// The kinds are 1 to this one; number 3 is told of any other.
+pub const LAST_KIND: u64 = 21;
 
 /// A request to a book: its answer, and the book changed where the answer is 0 and untouched elsewhere.
 pub fn request(words: &mut [u64], kind: u64, a: u64, b: u64, c: u64) -> Answer {
@@ -34,7 +37,7 @@ pub fn refusal(words: &[u64], kind: u64, a: u64, b: u64, c: u64) -> Option<Answe
     if let Some(index) = lowest_bad_word(words) {
         return Some((2, index as u64, 0));
     }
-    if !(1..=17).contains(&kind) {
+    if !(1..=LAST_KIND).contains(&kind) {
         return Some((3, 0, 0));
     }
     let book = Book::read(words);
@@ -43,14 +46,14 @@ pub fn refusal(words: &[u64], kind: u64, a: u64, b: u64, c: u64) -> Option<Answe
     }
     // From here on every argument in use is a number 0 to 63, but for the mask of kind 12.
     let (a, b, c) = (a as usize, b as usize, c as usize);
-    if already_set(&book, kind, a, b) {
+    if matches!(kind, 1..=10 | 12) && is_there(&book, kind, a, b) {
         return Some((5, 0, 0));
     }
-    if not_there(&book, kind, a, b) {
+    if matches!(kind, 15..=21) && !is_there(&book, kind, a, b) {
         return Some((6, 0, 0));
     }
     match kind {
-        4..=7 => (0..64).find(|&p| book.is_open(p)).map(|p| (7, p as u64, 0)),
+        4..=7 | 18..=21 => (0..64).find(|&p| book.is_open(p)).map(|p| (7, p as u64, 0)),
         11 if !roles_owned_by_subject(&book, b).has(a) => Some((8, 0, 0)),
         13 => allocation_refusal(&book, a, b, c),
         _ => None,
@@ -66,7 +69,7 @@ fn argument_at_fault(book: &Book, kind: u64, a: u64, b: u64, c: u64) -> Option<u
     let no_task_mask = |mask: u64| mask == 0 || Set::from_mask(mask).members().any(|t| !book.tasks.has(t));
     let at_fault = match kind {
         1..=3 => [a > 63, false, false],
-        4..=7 => [no_task(a), no_task(b), false],
+        4..=7 | 18..=21 => [no_task(a), no_task(b), false],
         8 | 15 => [no_task(a), no_role(b), false],
         9 | 16 => [no_role(a), no_role(b), false],
         10 | 11 | 17 => [no_role(a), no_subject(b), false],
@@ -83,31 +86,30 @@ fn argument_at_fault(book: &Book, kind: u64, a: u64, b: u64, c: u64) -> Option<u
     }
 }
 
-/// Number 5: the very bit, or the open order, that the request would set is there.
-fn already_set(book: &Book, kind: u64, a: usize, b: usize) -> bool {
+/// Numbers 5 and 6: whether the very bit, or the open order, is there that the request would set or take back.
+/// Of a pair it is bit b of row a, whatever stands in row b.
+fn is_there(book: &Book, kind: u64, a: usize, b: usize) -> bool {
     match kind {
         1 => book.tasks.has(a),
         2 => book.roles.has(a),
         3 => book.subjects.has(a),
-        4 => book.sme[a].has(b),
-        5 => book.dme[a].has(b),
-        6 => book.rb[a].has(b),
-        7 => book.sb[a].has(b),
-        8 => book.tasks_of_role[b].has(a),
-        9 => book.juniors[b].has(a),
-        10 => book.roles_of_subject[b].has(a),
+        4..=7 | 18..=21 => book.pair_tables()[pair_table_of(kind)][a].has(b),
+        8 | 15 => book.tasks_of_role[b].has(a),
+        9 | 16 => book.juniors[b].has(a),
+        10 | 17 => book.roles_of_subject[b].has(a),
         12 => book.is_open(a),
-        _ => false,
+        _ => unreachable!("no other kind sets anything or takes it back"),
     }
 }
 
-/// Number 6: the very bit that the request would take back is not there.
-fn not_there(book: &Book, kind: u64, a: usize, b: usize) -> bool {
+/// The place, among the pair tables, of the one that the kind adds a pair to or takes one back from.
+fn pair_table_of(kind: u64) -> usize {
     match kind {
-        15 => !book.tasks_of_role[b].has(a),
-        16 => !book.juniors[b].has(a),
-        17 => !book.roles_of_subject[b].has(a),
-        _ => false,
+        4 | 18 => 0,
+        5 | 19 => 1,
+        6 | 20 => 2,
+        7 | 21 => 3,
+        _ => unreachable!("no other kind speaks of a pair table"),
     }
 }
 
@@ -218,10 +220,7 @@ fn change(before: &Book, kind: u64, a: u64, b: u64, c: u64) -> Book {
         1 => book.tasks.put(a),
         2 => book.roles.put(a),
         3 => book.subjects.put(a),
-        4 => put_both(&mut book.sme, a, b),
-        5 => put_both(&mut book.dme, a, b),
-        6 => put_both(&mut book.rb, a, b),
-        7 => put_both(&mut book.sb, a, b),
+        4..=7 => put_both(book.pair_tables_mut()[pair_table_of(kind)], a, b),
         8 => book.tasks_of_role[b].put(a),
         9 => book.juniors[b].put(a),
         10 => {
@@ -241,6 +240,7 @@ fn change(before: &Book, kind: u64, a: u64, b: u64, c: u64) -> Book {
         15 => book.tasks_of_role[b].take(a),
         16 => book.juniors[b].take(a),
         17 => book.roles_of_subject[b].take(a),
+        18..=21 => take_both(book.pair_tables_mut()[pair_table_of(kind)], a, b),
         _ => unreachable!("number 3 comes before any change"),
     }
     book
@@ -249,6 +249,12 @@ fn change(before: &Book, kind: u64, a: u64, b: u64, c: u64) -> Book {
 fn put_both(table: &mut Table, a: usize, b: usize) {
     table[a].put(b);
     table[b].put(a);
+}
+
+/// Both bits go, also where only one of them was there.
+fn take_both(table: &mut Table, a: usize, b: usize) {
+    table[a].take(b);
+    table[b].take(a);
 }
 
 /// Kind 13: in order b each task of a's role group gets the active role of c, and each task of a's

@@ -27,10 +27,27 @@ fn number_63_is_accepted_and_64_refused() {
     assert_eq!((words[579], words[4675]), (0, 0));
 }
 
+/// Each pair table from its first row to its last: tasks 0 and 63 are joined, and parted again in either direction.
+#[test]
+fn the_pair_of_0_and_63() {
+    let words = defined(64, 0, 0);
+    for (kind, back, row) in [(4, 18, 4), (5, 19, 68), (6, 20, 132), (7, 21, 196)] {
+        for (a, b) in [(0, 63), (63, 0)] {
+            let mut joined = words.clone();
+            accept(&mut joined, &[(kind, 0, 63, MAX)]);
+            assert_eq!((joined[row], joined[row + 63]), (1 << 63, 1));
+            assert_eq!(ask(&mut joined, back, a, 64, 0), (4, 2, 0));
+            accept(&mut joined, &[(back, a, b, MAX)]);
+            assert!(joined == words);
+            assert_eq!(ask(&mut joined, back, a, b, 0), (6, 0, 0));
+        }
+    }
+}
+
 #[test]
 fn other_lengths_are_refused() {
     for length in [0, 1, 3, 580, 4675, 4677, 4700] {
-        for kind in [0, 1, 13, 17, 18, MAX] {
+        for kind in [0, 1, 13, 21, 22, MAX] {
             assert_eq!(ask(&mut vec![0; length], kind, MAX, MAX, MAX), (1, 0, 0));
             assert_eq!(ask(&mut vec![MAX; length], kind, 0, 0, 0), (1, 0, 0));
         }
@@ -39,8 +56,8 @@ fn other_lengths_are_refused() {
 }
 
 #[test]
-fn kinds_0_and_18_are_refused() {
-    for kind in [0, 18, 19, 256 + 1, (1 << 32) + 1, MAX] {
+fn kinds_0_and_22_are_refused() {
+    for kind in [0, 22, 23, 256 + 1, (1 << 32) + 1, MAX] {
         assert_eq!(ask(&mut blank(), kind, MAX, MAX, MAX), (3, 0, 0));
     }
     let mut words = blank();
@@ -78,10 +95,10 @@ fn cells_8256_and_8257() {
 
 #[test]
 fn the_greatest_number_in_every_place() {
-    for kind in 1..=17 {
+    for kind in 1..=21 {
         assert_eq!(ask(&mut book_b(), kind, MAX, MAX, MAX), (4, 1, 0));
     }
-    for kind in (4..=11).chain(15..=17) {
+    for kind in (4..=11).chain(15..=21) {
         assert_eq!(ask(&mut book_b(), kind, 0, MAX, MAX), (4, 2, 0));
     }
     let mut words = book_b();

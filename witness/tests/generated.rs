@@ -2,6 +2,7 @@
 
 mod common;
 
+use std::collections::BTreeMap;
 use std::io::Cursor;
 
 use witness::audit::{audit, rule_holds};
@@ -106,6 +107,25 @@ fn every_allowed_number_occurs() {
         assert_eq!(tally.not_allowed(), Vec::<String>::new());
         assert_eq!(tally.missing(), Vec::<String>::new());
     }
+}
+
+/// Pairs are taken back from each table in every way there is: either bit of the pair there or not, two tasks or one,
+/// with and without an open order.
+#[test]
+fn pairs_are_taken_back_in_every_way() {
+    let mut times: BTreeMap<_, u64> = BTreeMap::new();
+    walk(text_of_cases(9, 12_000), |words, kind, a, b, c| {
+        let fits = !matches!(refusal(words, kind, a, b, c), Some((1..=4, ..)));
+        if (18..=21).contains(&kind) && fits {
+            let (book, a, b) = (Book::read(words), a as usize, b as usize);
+            let table = book.pair_tables()[kind as usize - 18];
+            let open = (0..64).any(|p| book.is_open(p));
+            *times.entry((a == b, kind, table[a].has(b), table[b].has(a), open)).or_default() += 1;
+        }
+    });
+    // Of one task with itself the two bits are the same one: four ways, and eight for two tasks.
+    assert_eq!(times.len(), 4 * (4 + 8), "{times:?}");
+    assert!(times.iter().all(|((one_task, ..), &times)| *one_task || times >= 5), "{times:?}");
 }
 
 /// On the blank book each aimed situation gives just the number it aims at.

@@ -1,4 +1,4 @@
-//! "Numbers to check by": P1 to P14, word for word.
+//! "Numbers to check by": P1 to P14, word for word, and what becomes of some of them when a pair is taken back.
 
 mod common;
 
@@ -82,4 +82,20 @@ fn p14() {
     assert_eq!(ask(&mut words, 13, 1, 0, 0), (8, 0, 0));
     accept(&mut words, &[(11, 1, 0, 0)]);
     assert_eq!(ask(&mut words, 13, 1, 0, 0), (33, 0, 1));
+}
+
+/// P1, P2, P3, P5 and P13 after the pair that they met was taken back: accepted, or the next conflict of the kind.
+#[test]
+fn without_the_pair_they_met() {
+    let after = |back: (u64, u64, u64, u64), kind, a, b| {
+        let mut words = book_b();
+        accept(&mut words, &[back]);
+        ask(&mut words, kind, a, b, 0)
+    };
+    assert_eq!(after((18, 0, 1, 0), 5, 0, 1), (0, 0, 0));
+    assert_eq!(after((21, 2, 3, 0), 4, 2, 3), (25, 2, 0));
+    assert_eq!(after((20, 3, 5, 0), 4, 2, 5), (25, 3, 0));
+    assert_eq!(after((19, 4, 2, 0), 7, 3, 4), (0, 0, 0));
+    let mut words = defined(4, 0, 0);
+    accept(&mut words, &[(7, 0, 1, 0), (7, 2, 3, 0), (4, 1, 3, 0), (18, 1, 3, 0), (7, 0, 2, 0)]);
 }

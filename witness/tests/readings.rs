@@ -74,6 +74,55 @@ fn directly_there_or_owned() {
     accept(&mut words, &[(11, 2, 0, 0)]);
 }
 
+/// M-100: 6 asks bit b of row a alone, and both bits are cleared, also where only one is there. A task that is paired
+/// with itself is parted from itself. In each case nothing else changes.
+#[test]
+fn both_bits_of_a_pair_are_taken() {
+    for (kind, row) in (18..=21).zip([4, 68, 132, 196]) {
+        let mut words = defined(3, 0, 0);
+        words[row..row + 3].copy_from_slice(&[0b110, 0b100, 0b111]);
+        assert_eq!(ask(&mut words, kind, 1, 0, 0), (6, 0, 0));
+        let mut expected = words.clone();
+        for (a, b, rows) in [(0, 1, [0b100, 0b100, 0b111]), (2, 0, [0, 0b100, 0b110]), (2, 2, [0, 0b100, 0b010])] {
+            accept(&mut words, &[(kind, a, b, u64::MAX)]);
+            expected[row..row + 3].copy_from_slice(&rows);
+            assert!(words == expected);
+        }
+    }
+}
+
+/// M-100: the pair has to be in the table of the kind; no other table, and no chain, stands for it.
+#[test]
+fn only_the_own_table_counts() {
+    let tables = [4, 68, 132, 196];
+    for (kind, own) in (18..=21).zip(tables) {
+        let mut words = defined(3, 0, 0);
+        for row in tables.into_iter().filter(|&row| row != own) {
+            (words[row], words[row + 1]) = (0b010, 0b001);
+        }
+        (words[own], words[own + 2]) = (0b100, 0b010);
+        assert_eq!(ask(&mut words, kind, 0, 1, 0), (6, 0, 0));
+    }
+}
+
+/// M-100: 4 before 6, 6 before 7, and 7 names the lowest open order.
+#[test]
+fn what_comes_first_when_a_pair_is_taken() {
+    for (add, back) in (4..=7).zip(18..=21) {
+        let mut words = defined(3, 0, 0);
+        accept(&mut words, &[(add, 0, 1, 0), (12, 40, 0, 1), (12, 7, 0, 1)]);
+        assert_eq!(ask(&mut words, back, 3, 3, 0), (4, 1, 0));
+        assert_eq!(ask(&mut words, back, 0, 3, 0), (4, 2, 0));
+        assert_eq!(ask(&mut words, back, 0, 2, 0), (6, 0, 0));
+        assert_eq!(ask(&mut words, back, 0, 0, 0), (6, 0, 0));
+        assert_eq!(ask(&mut words, back, 1, 0, 0), (7, 7, 0));
+        accept(&mut words, &[(14, 7, 0, 0)]);
+        assert_eq!(ask(&mut words, back, 0, 1, 0), (7, 40, 0));
+        accept(&mut words, &[(14, 40, 0, 0), (back, 0, 1, 0)]);
+        assert!(words == defined(3, 0, 0));
+    }
+}
+
 /// Number 7 comes after 5 and before every conflict.
 #[test]
 fn open_orders_come_before_conflicts() {

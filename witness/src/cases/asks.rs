@@ -3,6 +3,7 @@
 use super::chance::Chance;
 use crate::book::Book;
 use crate::count::allowed_places;
+use crate::request::LAST_KIND;
 
 /// A kind and its three numbers.
 pub type Ask = (u64, u64, u64, u64);
@@ -59,7 +60,7 @@ pub fn likely(chance: &mut Chance, floor: &Floor, book: &Book, kind: u64) -> Ask
         12 => (12, order, stray_b, likely_mask(chance, floor, book)),
         13 => likely_allocation(chance, floor, book),
         14 => (14, likely_open(chance, book, order), stray_b, stray_c),
-        15..=17 => likely_taking_back(chance, floor, book, kind),
+        15..=21 => likely_taking_back(chance, floor, book, kind),
         _ => (kind, task, role, subject),
     }
 }
@@ -118,19 +119,26 @@ fn likely_allocation(chance: &mut Chance, floor: &Floor, book: &Book) -> Ask {
     (13, task as u64, order, subject as u64)
 }
 
+/// Often something that is there: a member of a row that is not empty. The row is that of b in kinds 15 to 17, and that
+/// of a where a pair is taken back, now and then turned round, since a table need not be symmetric.
 fn likely_taking_back(chance: &mut Chance, floor: &Floor, book: &Book, kind: u64) -> Ask {
-    let (table, givers, takers) = match kind {
-        15 => (&book.tasks_of_role, &floor.tasks, &floor.roles),
+    let (table, owners, named) = match kind {
+        15 => (&book.tasks_of_role, &floor.roles, &floor.tasks),
         16 => (&book.juniors, &floor.roles, &floor.roles),
-        _ => (&book.roles_of_subject, &floor.roles, &floor.subjects),
+        17 => (&book.roles_of_subject, &floor.subjects, &floor.roles),
+        _ => (book.pair_tables()[kind as usize - 18], &floor.tasks, &floor.tasks),
     };
-    let b = chance.pick(takers);
-    let there: Vec<usize> = table[b].members().collect();
-    let a = match chance.percent(60) && !there.is_empty() {
-        true => chance.pick(&there),
-        false => chance.pick(givers),
+    let filled: Vec<usize> = owners.iter().copied().filter(|&owner| !table[owner].is_empty()).collect();
+    let (owner, member) = match chance.percent(50) && !filled.is_empty() {
+        true => {
+            let owner = chance.pick(&filled);
+            let there: Vec<usize> = table[owner].members().collect();
+            (owner as u64, chance.pick(&there) as u64)
+        }
+        false => (chance.pick(owners) as u64, chance.pick(named) as u64),
     };
-    (kind, a as u64, b as u64, stray(chance))
+    let (a, b) = if kind < 18 || chance.percent(20) { (member, owner) } else { (owner, member) };
+    (kind, a, b, stray(chance))
 }
 
 /// A number at or beyond the edge of what a request may name.
@@ -158,13 +166,14 @@ pub fn spoiled(chance: &mut Chance, (kind, a, b, c): Ask) -> Ask {
     (kind, numbers[0], numbers[1], numbers[2])
 }
 
-/// A kind outside 1 to 17.
+/// What is no kind: 0, the first numbers past the last kind, and such as look like a kind when too few bits are kept.
 pub fn strange_kind(chance: &mut Chance) -> u64 {
-    let like_a_kind = chance.between(1, 17) as u64;
+    let past = LAST_KIND + 1;
+    let like_a_kind = chance.between(1, LAST_KIND as usize) as u64;
     match chance.below(4) {
-        0 => chance.pick(&[0, 18, 19, 20, 63, 64, u64::MAX, 1 << 63]),
+        0 => chance.pick(&[0, past, past + 1, past + 2, 63, 64, u64::MAX, 1 << 63]),
         1 => like_a_kind + chance.pick(&[32, 64, 256, 1 << 16, 1 << 32, 1 << 63]),
-        2 => chance.pick(&[0, 18]),
-        _ => chance.word().max(18),
+        2 => chance.pick(&[0, past]),
+        _ => chance.word().max(past),
     }
 }

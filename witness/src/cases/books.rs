@@ -28,7 +28,7 @@ fn arbitrary(chance: &mut Chance, [tasks, roles, subjects, orders]: [usize; 4], 
         (chance.some_numbers(tasks), chance.some_numbers(roles), chance.some_numbers(subjects));
     (book.tasks, book.roles, book.subjects) = (Set::of(&tasks), Set::of(&roles), Set::of(&subjects));
     let (two_way, own_rows) = (chance.percent(60), chance.percent(20));
-    for table in [&mut book.sme, &mut book.dme, &mut book.rb, &mut book.sb] {
+    for table in book.pair_tables_mut() {
         let share = chance.pick(shares);
         fill_pairs(chance, table, &tasks, share, two_way);
         if !own_rows {

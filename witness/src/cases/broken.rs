@@ -8,11 +8,11 @@ pub fn break_rule(scene: &mut Scene, rule: u64) {
     let (u, v) = (scene.task(), scene.task());
     match rule {
         1 => {
-            let pair = some_pair(scene);
+            let pair = scene.chance.pick(&Pair::ALL);
             scene.table(pair)[u].put(u);
         }
         2 => {
-            let pair = some_pair(scene);
+            let pair = scene.chance.pick(&Pair::ALL);
             scene.table(pair)[u].put(v);
         }
         3 => {
@@ -27,10 +27,6 @@ pub fn break_rule(scene: &mut Scene, rule: u64) {
         9 => give_both_to_one(scene, u, v),
         _ => part_a_group(scene, u),
     }
-}
-
-fn some_pair(scene: &mut Scene) -> Pair {
-    scene.chance.pick(&[Pair::Sme, Pair::Dme, Pair::Rb, Pair::Sb])
 }
 
 fn exclude_in_group(scene: &mut Scene, u: usize, bound: &[Pair], excluding: Pair) {

@@ -7,7 +7,8 @@ use super::situations::{job, trouble};
 const SUBJECT_BOUND: &[Pair] = &[Pair::Sb];
 const ROLE_BOUND: &[Pair] = &[Pair::Sb, Pair::Rb];
 
-/// A pair of tasks with any of the conflicts 21 to 28 about it; all kinds of pairs are then asked.
+/// A pair of tasks with any of the conflicts 21 to 28 about it. Each kind of pair is then added, then each is taken
+/// back, and the first is added again: it may still meet a conflict with what stands around.
 pub fn crowded_pair(scene: &mut Scene) -> Vec<Ask> {
     let (a, b) = (scene.task(), scene.task());
     for _ in 0..scene.chance.pick(&[1, 2, 2, 3]) {
@@ -15,13 +16,14 @@ pub fn crowded_pair(scene: &mut Scene) -> Vec<Ask> {
         trouble_of_pair(scene, a, b, trouble);
     }
     let (a, b) = (a as u64, b as u64);
-    let mut asks = Vec::new();
-    for kind in 4..=7 {
-        let turned = scene.chance.percent(50);
-        asks.push(if turned { (kind, b, a, 0) } else { (kind, a, b, 0) });
-    }
+    let mut either_way = |kind| if scene.chance.percent(50) { (kind, b, a, 0) } else { (kind, a, b, 0) };
+    let mut asks: Vec<Ask> = (4..=7).map(&mut either_way).collect();
+    let taken_back: Vec<Ask> = (18..=21).map(either_way).collect();
     let first = scene.chance.below(4);
     asks.rotate_left(first);
+    let again = asks[0];
+    asks.extend(taken_back);
+    asks.push(again);
     asks
 }
 

@@ -10,10 +10,13 @@ use super::scene::Scene;
 use super::sheet::Sheet;
 use super::situations::{lay, AIMS};
 use crate::book::{Book, WORDS};
+use crate::request::LAST_KIND;
 
 /// Kinds for the time in which a cell of machines is set up, and for the time in which orders run.
-const SETTING_UP: &[u64] = &[1, 2, 3, 4, 4, 5, 5, 6, 6, 7, 7, 8, 8, 8, 8, 9, 9, 10, 10, 10, 11, 15, 16, 17];
-const RUNNING: &[u64] = &[4, 5, 6, 7, 8, 9, 10, 10, 11, 11, 12, 12, 13, 13, 13, 13, 13, 13, 13, 13, 14, 15, 16, 17];
+const SETTING_UP: &[u64] =
+    &[1, 2, 3, 4, 4, 4, 5, 5, 5, 6, 6, 6, 7, 7, 7, 8, 8, 8, 8, 9, 9, 10, 10, 10, 11, 15, 16, 17, 18, 19, 20, 21];
+const RUNNING: &[u64] =
+    &[4, 5, 6, 7, 8, 9, 10, 10, 11, 11, 12, 12, 13, 13, 13, 13, 13, 13, 13, 13, 13, 14, 15, 16, 17, 18, 19, 20, 21];
 
 /// How many sound books are kept for later rounds.
 const KEPT: usize = 12;
@@ -128,7 +131,7 @@ impl Maker {
         self.sheet.lay(book.words());
         self.sheet.audit();
         for _ in 0..requests {
-            let kind = self.chance.between(4, 17) as u64;
+            let kind = self.chance.between(4, LAST_KIND as usize) as u64;
             self.ask_likely(&floor, kind);
         }
     }
@@ -146,7 +149,7 @@ impl Maker {
     /// An aimed situation on some ground; then the same request turned round, and once more.
     fn aimed(&mut self, kind: u64, number: u64) {
         let mut ground = self.ground(false);
-        if (4..=7).contains(&kind) && self.chance.percent(90) {
+        if matches!(kind, 4..=7 | 18..=21) && self.chance.percent(90) {
             without_orders(&mut ground);
         }
         let one_way = self.chance.percent(25);
@@ -210,14 +213,14 @@ impl Maker {
         }
         self.sheet.lay(words);
         self.sheet.audit();
-        for kind in 0..=17 {
+        for kind in 0..=LAST_KIND {
             if self.chance.percent(50) {
                 self.ask_blindly(kind);
             }
         }
     }
 
-    /// A request with any arguments at all; kind 0 stands for the kinds outside 1 to 17.
+    /// A request with any arguments at all; kind 0 stands for whatever is no kind.
     fn ask_blindly(&mut self, kind: u64) {
         let kind = if kind == 0 { strange_kind(&mut self.chance) } else { kind };
         let small = |chance: &mut Chance| if chance.percent(60) { chance.below(64) as u64 } else { extreme(chance) };
@@ -236,7 +239,7 @@ impl Maker {
         }
         self.sheet.lay(words);
         self.sheet.audit();
-        (0..=17).for_each(|kind| self.ask_blindly(kind));
+        (0..=LAST_KIND).for_each(|kind| self.ask_blindly(kind));
     }
 
     /// Every kind with extreme arguments, on a book where the others mostly fit.
@@ -245,7 +248,7 @@ impl Maker {
         let floor = Floor::of(&mut self.chance, &book);
         self.sheet.lay(book.words());
         self.sheet.audit();
-        for kind in 1..=17 {
+        for kind in 1..=LAST_KIND {
             let ask = likely(&mut self.chance, &floor, &self.sheet.book(), kind);
             let ask = spoiled(&mut self.chance, ask);
             self.sheet.ask(ask);
@@ -271,13 +274,17 @@ impl Maker {
             asks.extend([(kind, first, last, 0), (kind, last, first, 0)]);
         }
         asks.extend([(12, order, 0, u64::MAX), (13, first, order, subject), (13, last, order, subject)]);
+        // The order is closed, a link of the chain of tasks is taken back, and the ends are asked again.
+        let (here, next) = (tasks[31] as u64, tasks[32] as u64);
+        asks.extend([(14, order, 0, 0), (20, here, next, 0), (21, here, next, 0)]);
+        asks.extend([(4, first, last, 0), (4, last, first, 0)]);
         for ask in asks {
             self.sheet.ask(ask);
         }
         self.sheet.audit();
         let floor = Floor::of(&mut self.chance, &book);
         for _ in 0..20 {
-            let kind = self.chance.between(4, 17) as u64;
+            let kind = self.chance.between(4, LAST_KIND as usize) as u64;
             self.ask_likely(&floor, kind);
         }
     }

@@ -12,6 +12,10 @@ pub enum Pair {
     Sb,
 }
 
+impl Pair {
+    pub const ALL: [Pair; 4] = [Pair::Sme, Pair::Dme, Pair::Rb, Pair::Sb];
+}
+
 /// A book under construction, with the numbers that are still free in it.
 pub struct Scene<'a> {
     pub chance: &'a mut Chance,

@@ -22,6 +22,8 @@ pub const AIMS: &[(u64, u64)] = &[
     (11, 0), (11, 8),
     (13, 0), (13, 4), (13, 8), (13, 9), (13, 10), (13, 11), (13, 33), (13, 34), (13, 33), (13, 34), (13, 0),
     (16, 0), (16, 6),
+    (18, 0), (18, 0), (18, 6), (18, 6), (18, 7), (19, 0), (19, 0), (19, 6), (19, 6), (19, 7),
+    (20, 0), (20, 0), (20, 6), (20, 6), (20, 7), (21, 0), (21, 0), (21, 6), (21, 6), (21, 7),
 ];
 
 /// Lays the situation for a kind and a number, and gives the request that meets it.
@@ -29,6 +31,7 @@ pub fn lay(scene: &mut Scene, kind: u64, number: u64) -> Ask {
     let (a, b) = match (kind, number) {
         (13, _) => return allocation(scene, number),
         (9, 5) => junior_already(scene),
+        (18..=21, _) => pair_to_take(scene, kind, number),
         (_, 20) => same_task(scene),
         (_, 29) => same_role(scene),
         (_, 30) => cycle(scene),
@@ -74,17 +77,25 @@ fn cycle(scene: &mut Scene) -> (usize, usize) {
     (a, b)
 }
 
+/// The pair table that the kind adds to or takes back from.
+fn own_table(kind: u64) -> Pair {
+    match kind {
+        4 | 18 => Pair::Sme,
+        5 | 19 => Pair::Dme,
+        6 | 20 => Pair::Rb,
+        _ => Pair::Sb,
+    }
+}
+
 /// A pair that stands in the kind's own table (5), in DME (21) or SME (22), or while an order is open (7).
 fn named_pair(scene: &mut Scene, kind: u64, number: u64) -> (usize, usize) {
     let (a, b) = (scene.task(), scene.task());
-    let pair = match (number, kind) {
-        (21, _) | (5, 5) => Pair::Dme,
-        (22, _) | (5, 4) => Pair::Sme,
-        (5, 6) => Pair::Rb,
-        (5, 7) => Pair::Sb,
+    let pair = match number {
+        5 => own_table(kind),
+        21 => Pair::Dme,
+        22 => Pair::Sme,
         _ => {
-            let order = scene.order();
-            scene.book.orders[order].put(a);
+            open_with(scene, a);
             return (a, b);
         }
     };
@@ -103,6 +114,65 @@ fn later_conflict(scene: &mut Scene, kind: u64, number: u64, a: usize, b: usize)
         (4, 21) | (5, 22) => scene.link(a, b, steps, SUBJECT_BOUND),
         _ => {}
     }
+}
+
+/// An order is opened for the task, so that no pair may be added or taken back.
+fn open_with(scene: &mut Scene, task: usize) {
+    let order = scene.order();
+    scene.book.orders[order].put(task);
+}
+
+/// Kinds 18 to 21: a pair that is there (0), also while orders are open (7), or one that is not there (6).
+/// Either way bindings and exclusions stand around it.
+fn pair_to_take(scene: &mut Scene, kind: u64, number: u64) -> (usize, usize) {
+    let (a, b) = match number {
+        6 => pair_not_there(scene, own_table(kind)),
+        _ => pair_there(scene, own_table(kind)),
+    };
+    for u in [a, b] {
+        let (pair, v) = (scene.chance.pick(&Pair::ALL), scene.task());
+        scene.join(pair, u, v);
+    }
+    // Number 6 comes before 7, so orders may be open for it.
+    if number == 7 || (number == 6 && scene.chance.percent(40)) {
+        (0..scene.chance.between(1, 3)).for_each(|_| open_with(scene, a));
+    }
+    (a, b)
+}
+
+/// A pair with both bits, with bit b of row a alone, or of a task with itself. The last two only an unsound book shows.
+fn pair_there(scene: &mut Scene, pair: Pair) -> (usize, usize) {
+    let a = scene.task();
+    match scene.chance.below(5) {
+        0 | 1 => {
+            let b = scene.task();
+            scene.join(pair, a, b);
+            (a, b)
+        }
+        2 | 3 => {
+            let b = scene.task();
+            scene.table(pair)[a].put(b);
+            (a, b)
+        }
+        _ => {
+            scene.table(pair)[a].put(a);
+            (a, a)
+        }
+    }
+}
+
+/// Two tasks that something joins, but not bit b of row a: bit a of row b, the other tables, or a chain.
+fn pair_not_there(scene: &mut Scene, pair: Pair) -> (usize, usize) {
+    let (a, b) = (scene.task(), scene.task());
+    match scene.chance.below(4) {
+        0 | 1 => scene.table(pair)[b].put(a),
+        2 => Pair::ALL.into_iter().filter(|&other| other != pair).for_each(|other| scene.join(other, a, b)),
+        _ => {
+            let steps = scene.chance.between(2, 4);
+            scene.link(a, b, steps, &[pair]);
+        }
+    }
+    (a, b)
 }
 
 fn one_group(scene: &mut Scene, pairs: &[Pair]) -> (usize, usize) {
