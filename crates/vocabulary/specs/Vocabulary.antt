@@ -30,7 +30,7 @@ tryRow = 5
 
 -- how many words there are
 abbrev pub rowCount : ℕ
-rowCount = 28
+rowCount = 32
 
 -- the words: rows 0 to 5 are no kind; 6 to 9 name kinds 4 to 7 once more, and 10 kind 3; from row 11 on they name kinds 1, 2 and so on
 unfoldable pub words : List String
@@ -63,6 +63,10 @@ words =
     ∷ "take-task"
     ∷ "take-junior"
     ∷ "take-role"
+    ∷ "take-sme"
+    ∷ "take-dme"
+    ∷ "take-rb"
+    ∷ "take-sb"
     ∷ []
 
 -- the rows of the words, one behind the other

@@ -19,20 +19,20 @@ pub const TRY: u64 = 5;
 pub const KINDS: u64 = 10;
 
 // How many words there are.
-pub const ROWS: u64 = 28;
+pub const ROWS: u64 = 32;
 
 // How wide a row is.
 pub const WIDTH: usize = 16;
 
-// The words that are no kind, then second words of kinds 4 to 7 and of kind 3, then kinds 1 to 17.
-fn rows() -> [u8; 448]
+// The words that are no kind, then second words of kinds 4 to 7 and of kind 3, then kinds 1 to 21.
+fn rows() -> [u8; 512]
     ensures { λ r. ⌜ r ≡ rowsOf words ⌝ }
 {
     *b"show            audit           help            quit            name            try             \
        exclude-static  exclude-dynamic bind-role       bind-subject    define-person   \
        define-task     define-role     define-subject  sme             dme             rb              sb              \
        assign-task     junior          assign-role     activate        open            allocate        close           \
-       take-task       take-junior     take-role       "
+       take-task       take-junior     take-role       take-sme        take-dme        take-rb         take-sb         "
 }
 
 // The row of a word; ROWS where it is no word of the panel.
@@ -64,7 +64,7 @@ pub fn kind_of(row: u64) -> u64
     match row {
         6..=9 => row - 2,
         10 => 3,
-        11..=27 => row - KINDS,
+        11..=31 => row - KINDS,
         _ => 0,
     }
 }
