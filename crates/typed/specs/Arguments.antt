@@ -44,18 +44,18 @@ any = 5
 abbrev pub mask : ℕ
 mask = 6
 
--- What kinds 1 to 17 take as a, ..
+-- What kinds 1 to 21 take as a, ..
 abbrev pub firsts : List ℕ
-firsts = any ∷ task ∷ role ∷ person ∷ task ∷ task ∷ task ∷ task ∷ task ∷ role ∷ role ∷ role ∷ order ∷ task ∷ order ∷ task ∷ role ∷ role ∷ []
+firsts = any ∷ task ∷ role ∷ person ∷ replicate 5 task ++ role ∷ role ∷ role ∷ order ∷ task ∷ order ∷ task ∷ role ∷ role ∷ replicate 4 task
 
 -- .. as b ..
 abbrev pub seconds : List ℕ
 seconds =
-    any ∷ unused ∷ unused ∷ unused ∷ task ∷ task ∷ task ∷ task ∷ role ∷ role ∷ person ∷ person ∷ unused ∷ order ∷ unused ∷ role ∷ role ∷ person ∷ []
+    any ∷ replicate 3 unused ++ replicate 4 task ++ role ∷ role ∷ person ∷ person ∷ unused ∷ order ∷ unused ∷ role ∷ role ∷ person ∷ replicate 4 task
 
 -- .. and as c.
 abbrev pub thirds : List ℕ
-thirds = any ∷ replicate 11 unused ++ mask ∷ person ∷ replicate 4 unused
+thirds = any ∷ replicate 11 unused ++ mask ∷ person ∷ replicate 8 unused
 
 -- What is no kind takes none to three numbers, of any size.
 unfoldable pub wanted : List ℕ → ℕ → ℕ

@@ -49,16 +49,16 @@ const ANY: u64 = 5;
 const MASK: u64 = 6;
 
 // How many rows these tables have: one for each kind, and the first for what is none.
-const ROWS: usize = 18;
+const ROWS: usize = 22;
 
 const END: u64 = ROWS as u64;
 
 // What each kind takes first, second and third. What is no kind takes any numbers, none to three of them.
-const FIRST: [u64; ROWS] = [5, 0, 1, 2, 0, 0, 0, 0, 0, 1, 1, 1, 3, 0, 3, 0, 1, 1];
+const FIRST: [u64; ROWS] = [5, 0, 1, 2, 0, 0, 0, 0, 0, 1, 1, 1, 3, 0, 3, 0, 1, 1, 0, 0, 0, 0];
 
-const SECOND: [u64; ROWS] = [5, 4, 4, 4, 0, 0, 0, 0, 1, 1, 2, 2, 4, 3, 4, 1, 1, 2];
+const SECOND: [u64; ROWS] = [5, 4, 4, 4, 0, 0, 0, 0, 1, 1, 2, 2, 4, 3, 4, 1, 1, 2, 0, 0, 0, 0];
 
-const THIRD: [u64; ROWS] = [5, 4, 4, 4, 4, 4, 4, 4, 4, 4, 4, 4, 6, 2, 4, 4, 4, 4];
+const THIRD: [u64; ROWS] = [5, 4, 4, 4, 4, 4, 4, 4, 4, 4, 4, 4, 6, 2, 4, 4, 4, 4, 4, 4, 4, 4];
 
 pub fn first_of(kind: u64) -> u64
     ensures { λ r. ⌜ r ≡ wanted firsts kind ⌝ }
