@@ -46,7 +46,11 @@ fn line(paper: &mut [u8], row: u64) {
           |  14  close ORDER                     the order is done, and its hands are forgotten\n\
           |  15  take-task TASK ROLE             the role has the task no more\n\
           |  16  take-junior JUNIOR SENIOR       the one role is no junior of the other any more\n\
-          |  17  take-role ROLE PERSON           the person has the role no more\n",
+          |  17  take-role ROLE PERSON           the person has the role no more\n\
+          |  18  take-sme TASK TASK              what sme added is taken back\n\
+          |  19  take-dme TASK TASK              what dme added is taken back\n\
+          |  20  take-rb TASK TASK               what rb added is taken back\n\
+          |  21  take-sb TASK TASK               what sb added is taken back\n",
         text_of(row),
     );
 }
@@ -91,14 +95,14 @@ fn more(paper: &mut [u8], row: u64) {
           |A task must be defined before anything else is said of it. Once defined it stays.\nExample: define-task 0\n\
           |A role must be defined before anything else is said of it. Once defined it stays.\nExample: define-role 0\n\
           |A person must be defined before anything else is said of them. Once defined they stay.\nExample: define-subject 0\n\
-          |Nobody may own both tasks, by whatever roles (static mutual exclusion). It can't be taken back, and no order may be open.\n\
+          |Nobody may own both tasks, by whatever roles (static mutual exclusion). No order may be open; take-sme takes it back.\n\
           Example: sme 0 1\n\
-          |Who does the one task in an order may not do the other in it (dynamic mutual exclusion). It can't be taken back, and no order may \
-          be open.\nExample: dme 2 4\n\
-          |Within an order both tasks are done in the same role (role binding). It can't be taken back, and no order may be open.\n\
+          |Who does the one task in an order may not do the other in it (dynamic mutual exclusion). No order may be open; take-dme takes it \
+          back.\nExample: dme 2 4\n\
+          |Within an order both tasks are done in the same role (role binding). No order may be open; take-rb takes it back.\n\
           Example: rb 6 7\n\
-          |Within an order both tasks are done by the same person in the same role (subject binding). It can't be taken back, and no order \
-          may be open.\nExample: sb 2 3\n\
+          |Within an order both tasks are done by the same person in the same role (subject binding). No order may be open; take-sb takes it \
+          back.\nExample: sb 2 3\n\
           |The role owns the task from now on, and so does each role above it and each person who has one of them.\nExample: assign-task 0 0\n\
           |The first role is put below the second, which owns all that the first owns. Roles may not run in a circle.\nExample: junior 2 6\n\
           |The person owns the role, the roles below it and their tasks. Who acted in no role acts in this one.\nExample: assign-role 0 0\n\
@@ -110,7 +114,11 @@ fn more(paper: &mut [u8], row: u64) {
           |The order's tasks and who did them are forgotten; its number can be used again.\nExample: close 0\n\
           |The task is taken from the role that it was assigned to. What is in hand in open orders stays there.\nExample: take-task 0 0\n\
           |The step between the two roles is taken back. What is in hand in open orders stays there.\nExample: take-junior 2 6\n\
-          |The role is taken from the person. What is in hand in open orders stays there.\nExample: take-role 4 4\n",
+          |The role is taken from the person. What is in hand in open orders stays there.\nExample: take-role 4 4\n\
+          |The static exclusion of the two tasks is taken back: one role or person may own both. No order may be open.\nExample: take-sme 0 1\n\
+          |The dynamic exclusion of the two tasks is taken back. No order may be open.\nExample: take-dme 2 4\n\
+          |The role binding of the two tasks is taken back; other bindings may still join them. No order may be open.\nExample: take-rb 6 7\n\
+          |The subject binding of the two tasks is taken back; other SB may still join them. No order may be open.\nExample: take-sb 2 3\n",
         text_of(row),
     );
 }
