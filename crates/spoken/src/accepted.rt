@@ -23,7 +23,11 @@ pub fn accepted(paper: &mut [u8], names: &[u8], v: Facts) {
           |accepted: order %oa is closed, and its hands are forgotten\
           |accepted: role %rb has task %ta no more\
           |accepted: role %ra is a junior of role %rb no more\
-          |accepted: person %pb has role %ra no more",
+          |accepted: person %pb has role %ra no more\
+          |accepted: task %ta and task %tb exclude each other no more (SME)\
+          |accepted: task %ta and task %tb exclude each other within an order no more (DME)\
+          |accepted: task %ta and task %tb are bound to one role no more, unless other bindings join them (RB)\
+          |accepted: task %ta and task %tb are bound to one person no more, unless other SB join them (SB)",
         v.kind,
         v,
     );

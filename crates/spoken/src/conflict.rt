@@ -1,9 +1,10 @@
-// Conflicts, and what would resolve them: numbers 20 to 34. This book takes no exclusion or binding back, so where document 002 would
-// remove one, the sentence says to begin a book without it.
+// Conflicts, and what would resolve them: numbers 20 to 34. Where document 002 removes an exclusion or a binding, the sentence names the
+// request that takes it back. More than one chain of bindings may join two tasks, so there it says how far to go. Nothing of this is taken
+// back while an order is open: at 20 to 28 none is, since 7 comes first; 31 and 32 say so; 33 and 34 offer no such way.
 //
 // The sentences name these resolutions of 002: 20: 1. 21: 4. 22: 2, and 3 for a role binding. 23: 6, and 7 for a dynamic exclusion. 24: 5.
-// 25: 8. 26: 8 and 10. 27: 2, 5 and 6, and 3 for a role binding. 28: 4, 6 and 7. 29: 13. 30: 13 and 14. 31: 3 and 8. 32: 3, 8 and 10.
-// 33 and 34: 15 and 16.
+// 25: 8. 26: 8 and 10. 27: 2, 5 and 6, and 3 for a role binding. 28: 4, 6 and 7. 29: 13. 30: 13 and 14. 31: 2, 3 and 8.
+// 32: 2, 3, 8 and 10. 33 and 34: 15 and 16.
 use crate::sentence::Facts;
 use crate::sentence::tell_nth;
 
@@ -14,17 +15,17 @@ fn of_two_tasks(paper: &mut [u8], names: &[u8], n: u64, v: Facts) {
         names,
         b"|conflict: task %ta can neither exclude nor be bound to itself; to resolve: name two different tasks\
           |conflict: task %ta and task %tb already exclude each other within an order (DME); \
-          to resolve: leave it at that, or begin a book without that DME\
+          to resolve: leave it at that, or take that DME back (take-dme)\
           |conflict: task %ta and task %tb already exclude each other (SME); \
-          to resolve: leave it at that, or begin a book without that SME\
+          to resolve: leave it at that, or take that SME back (take-sme)\
           |conflict: task %ta and task %tb are bound to one person, directly or by other tasks (SB); \
-          to resolve: begin a book without one of those SB\
+          to resolve: take SB back until they no longer are (take-sb)\
           |conflict: task %ta and task %tb are bound to one role, directly or by other tasks (RB, SB); \
-          to resolve: begin a book without one of those RB\
+          to resolve: take RB back until they no longer are (take-rb)\
           |conflict: task %ta and task %tb already exclude each other (SME); \
-          to resolve: leave it at that, or begin a book without that SME or with a DME in its place\
+          to resolve: leave it at that, or take that SME back (take-sme), with a DME in its place if need be (dme)\
           |conflict: task %ta and task %tb are bound to one person, directly or by other tasks (SB); \
-          to resolve: begin a book without one of those SB, or with an RB in its place",
+          to resolve: take SB back until they no longer are (take-sb), with RB in their place if need be (rb)",
         n,
         v,
     );
@@ -40,12 +41,14 @@ fn of_owners_and_groups(paper: &mut [u8], names: &[u8], n: u64, v: Facts) {
           |conflict: person %px owns both task %ta and task %tb; \
           to resolve: take from them a role that owns one (take-role), or take that task from the role (take-task)\
           |conflict: binding task %ta to task %tb would bind task %tx to task %ty, which exclude each other (SME); \
-          to resolve: begin a book without that SME, or without one of the bindings that join them\
+          to resolve: take that SME back (take-sme), or take bindings back until it no longer would (take-rb, take-sb)\
           |conflict: binding task %ta to task %tb would put task %tx and task %ty into one hand, \
           which exclude each other within an order (DME); \
-          to resolve: begin a book without that DME, or without one of the SB that join them, or with an RB in its place\
+          to resolve: take that DME back (take-dme), or take SB back until it no longer would (take-sb), \
+          with RB in their place if need be (rb)\
           |conflict: binding task %ta to task %tb would bind task %tx to task %ty, which exclude each other (SME); \
-          to resolve: begin a book without that SME or with a DME in its place, or without one of the bindings that join them",
+          to resolve: take that SME back (take-sme), with a DME in its place if need be (dme), \
+          or take bindings back until it no longer would (take-rb, take-sb)",
         n,
         v,
     );
@@ -61,16 +64,16 @@ fn of_gains(paper: &mut [u8], names: &[u8], n: u64, v: Facts) {
           to resolve: name roles that are not above each other, or take the junior step between them back first (take-junior)\
           |conflict: role %rx owns task %ty, which excludes a task of role %ra (SME), which it would gain; \
           to resolve: take task %ty from it, or from the junior it comes from (take-task, take-junior), \
-          assign elsewhere, or begin a book with a DME in place of that SME\
+          assign elsewhere, or take that SME back while no order is open (take-sme), with a DME in its place if need be (dme)\
           |conflict: person %px owns task %ty, which excludes a task of role %ra (SME), which they would gain; \
           to resolve: take the role with task %ty from them (take-role), task %ty from that role (take-task), \
-          choose someone else, or begin a book with a DME in place of that SME\
+          choose someone else, or take that SME back while no order is open (take-sme), with a DME in its place if need be (dme)\
           |conflict: role %rx owns task %ty, which excludes task %ta (SME), which it would gain; \
           to resolve: take task %ty from it, or from the junior it comes from (take-task, take-junior), \
-          assign elsewhere, or begin a book with a DME in place of that SME\
+          assign elsewhere, or take that SME back while no order is open (take-sme), with a DME in its place if need be (dme)\
           |conflict: person %px owns task %ty, which excludes task %ta (SME), which they would gain; \
           to resolve: take the role with task %ty from them (take-role), task %ty from that role (take-task), \
-          choose someone else, or begin a book with a DME in place of that SME",
+          choose someone else, or take that SME back while no order is open (take-sme), with a DME in its place if need be (dme)",
         n,
         v,
     );

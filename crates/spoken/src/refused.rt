@@ -11,7 +11,7 @@ fn unfit(paper: &mut [u8], names: &[u8], number: u64, v: Facts) {
         names,
         b"|refused: the book has not 4676 words\
           |refused: word %nx of the book is bad\
-          |refused: there is no request of kind %nk; the kinds are 1 to 17",
+          |refused: there is no request of kind %nk; the kinds are 1 to 21",
         number,
         v,
     );
@@ -117,7 +117,11 @@ fn not_there(paper: &mut [u8], names: &[u8], n: u64, v: Facts) {
         names,
         b"|refused: task %ta is not assigned to role %rb itself\
           |refused: role %ra is no direct junior of role %rb\
-          |refused: role %ra is not assigned to person %pb itself",
+          |refused: role %ra is not assigned to person %pb itself\
+          |refused: there is no SME between task %ta and task %tb\
+          |refused: there is no DME between task %ta and task %tb\
+          |refused: there is no direct RB between task %ta and task %tb\
+          |refused: there is no direct SB between task %ta and task %tb",
         n,
         v,
     );
