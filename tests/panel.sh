@@ -199,8 +199,8 @@ says "quit ends the shift" 'define-task 0\nquit\ndefine-task 1' '1: 0 0 0  accep
 lists_every_word() {
     printf 'help\n' | panel >"$room/help" || return 1
     for word in define-task define-role define-subject sme dme rb sb assign-task junior assign-role activate open allocate close \
-        take-task take-junior take-role show audit help quit name try; do
-        grep -qw -- "$word" "$room/help" || { echo "help does not tell of $word"; return 1; }
+        take-task take-junior take-role take-sme take-dme take-rb take-sb show audit help quit name try; do
+        grep -qE "^ +([0-9]+ +)?$word " "$room/help" || { echo "help does not tell of $word"; return 1; }
         printf 'help %s\n' "$word" | panel | grep -q '^1: no request' && { echo "no help on $word"; return 1; }
     done
     return 0
