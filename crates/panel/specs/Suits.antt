@@ -21,9 +21,9 @@ suits aTaskMask sort = eqb sort typed.mask
 -- all three arguments of a kind suit
 unfoldable pub kindSuits : ℕ → Bool
 kindSuits kind =
-    suits (rowOf kind .a) (typed.wanted typed.firsts kind)
-    && suits (rowOf kind .b) (typed.wanted typed.seconds kind)
-    && suits (rowOf kind .c) (typed.wanted typed.thirds kind)
+    suits (rowOf kind .a) (typed.wanted kind .0)
+    && suits (rowOf kind .b) (typed.wanted kind .1)
+    && suits (rowOf kind .c) (typed.wanted kind .2)
 
 -- how many kinds there are: the rows of the table, but for row 0, which is no kind
 unfoldable pub kindCount : ℕ

@@ -11,29 +11,30 @@ use Rattle.sets.specs.Mask.{with}
 use Rattle.labels.specs.Names.{isName, found}
 use Rattle.typed.specs.Words.{startFrom, wordAt, spanFrom, byWord}
 use Rattle.typed.proofs.WordLaws.{starts, ends, bytesOf, said-of, word-cut, word-missing, word-there}
-use Rattle.typed.specs.Arguments.{any, wanted, calledBy, counts, valueOf, placedAt, numberAt, thingAt}
+use Rattle.typed.specs.Arguments.{any, takes, table, wanted, calledBy, counts, valueOf, placedAt, numberAt, thingAt}
 use Rattle.typed.specs.Arguments.{addedTo, tasksFrom, isTasks, listed, maskAt, argumentAt}
 use Rattle.typed.specs.declared.arguments.Reason.{Reason}
 use Rattle.typed.specs.declared.arguments.Reason.the-variants.{TooFew, TooLong, UnknownName, NotInRange}
 use Rattle.typed.specs.declared.arguments.Argument.{Argument}
 use Rattle.typed.specs.declared.arguments.Argument.the-variants.{Is, Not}
+use Rattle.typed.specs.declared.arguments.Takes.{Takes}
 use Rattle.typed.specs.declared.words.Span.{Span}
 use Rattle.typed.specs.declared.arguments.Value.the-variants.{Is as value, Not as noValue}
 
-same-inside : (l : List ℕ) (i d e : ℕ) → i < length l → getD l i d ≡ getD l i e
+same-inside : {A : Type 0} (l : List A) (i : ℕ) (d e : A) → i < length l → getD l i d ≡ getD l i e
 same-inside [] i d e h = absurd (omega arith)
 same-inside (x ∷ l) zero d e h = refl
 same-inside (x ∷ l) (suc i) d e h = same-inside l i d e (omega arith)
 
--- What a kind of the list wants stands in it, whatever stands for what is past its end.
-pub listed-want : (list : List ℕ) (kind d : ℕ) → kind < length list → getD list kind d ≡ wanted list kind
+-- What a kind takes stands in the table, whatever stands for what is past its end.
+pub listed-want : (kind : ℕ) (d : Takes) → kind < length table → getD table kind d ≡ wanted kind
 unfolding wanted
-listed-want list kind d h = same-inside list kind d any h
+listed-want kind d h = same-inside table kind d (takes any any any) h
 
 -- Another kind takes any number.
-pub other-want : (list : List ℕ) (kind : ℕ) → length list ≤ kind → any ≡ wanted list kind
+pub other-want : (kind : ℕ) → length table ≤ kind → takes any any any ≡ wanted kind
 unfolding wanted
-other-want list kind h = sym (List·getD-eq-default list any h)
+other-want kind h = sym (List·getD-eq-default table (takes any any any) h)
 
 -- A name that something has stands for that thing; one that nothing has is told as unknown.
 module _ (names : List ℕ) (sort : ℕ) (word : List ℕ) (n : ℕ) (e : n ≡ found names sort word) where

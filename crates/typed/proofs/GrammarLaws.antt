@@ -12,7 +12,7 @@ use Rattle.text.specs.Written.{written}
 use Rattle.labels.specs.Names.{isName, found}
 use Rattle.vocabulary.specs.Vocabulary.{showRow, auditRow, helpRow, quitRow, nameRow, tryRow, rowCount, rowFor, kindOf}
 use Rattle.typed.specs.Words.{startFrom, spanFrom}
-use Rattle.typed.specs.Arguments.{thingAt, argumentAt, firsts, seconds, thirds, wanted}
+use Rattle.typed.specs.Arguments.{thingAt, argumentAt, wanted}
 use Rattle.typed.specs.Grammar.{sortAt, sortFor, asked, following, byNext, ends, helpOn, thirdArgument, secondArgument, firstArgument}
 use Rattle.typed.specs.Grammar.{byNumber, byKind, showOf, isTaken, labelled, labelAt, namedAt, nameOf}
 use Rattle.typed.specs.Grammar.{showAt, helpAt, nameAt, requestAt, begunBy, lineOf}
@@ -75,38 +75,38 @@ module _ (line : List ℕ) (whole : Bool) (start end : ℕ) (word : List ℕ) (r
 module _ (line : List ℕ) (whole : Bool) (names : List ℕ) where
   -- The arguments of a request: `arg` was read as the sort that the kind wants at that place.
   module _ (trial : Bool) (kind at sort : ℕ) (arg : Argument) (ha : arg ≡ argumentAt line whole names sort at) where
-    argued : (list : List ℕ) → sort ≡ wanted list kind → (x : Argument) → arg ≡ x → argumentAt line whole names (wanted list kind) at ≡ x
-    argued list hs x q = ap (λ (s : ℕ). argumentAt line whole names s at) (sym hs) ∙ sym ha ∙ q
+    argued : (want : ℕ) → sort ≡ want → (x : Argument) → arg ≡ x → argumentAt line whole names want at ≡ x
+    argued want hs x q = ap (λ (s : ℕ). argumentAt line whole names s at) (sym hs) ∙ sym ha ∙ q
 
-    module _ (a b : ℕ) (hs : sort ≡ wanted thirds kind) where
+    module _ (a b : ℕ) (hs : sort ≡ wanted kind .2) where
       pub third-is : (c behind : ℕ) → arg ≡ Is c behind → (l : Line) → l ≡ asked trial kind a b c →
           ends line whole behind l ≡ thirdArgument line whole names trial kind a b at
       unfolding thirdArgument
-      third-is c behind q l h = ap (ends line whole behind) h ∙ follow _ _ c behind (argued thirds hs _ q)
+      third-is c behind q l h = ap (ends line whole behind) h ∙ follow _ _ c behind (argued _ hs _ q)
 
       pub third-bad : (r : Reason) (p : ℕ) → arg ≡ Not r p → Fault r p ≡ thirdArgument line whole names trial kind a b at
       unfolding thirdArgument
-      third-bad r p q = follow-bad _ _ r p (argued thirds hs _ q)
+      third-bad r p q = follow-bad _ _ r p (argued _ hs _ q)
 
-    module _ (a : ℕ) (hs : sort ≡ wanted seconds kind) where
+    module _ (a : ℕ) (hs : sort ≡ wanted kind .1) where
       pub second-is : (b behind : ℕ) → arg ≡ Is b behind →
           thirdArgument line whole names trial kind a b behind ≡ secondArgument line whole names trial kind a at
       unfolding secondArgument
-      second-is b behind q = follow (λ b behind. thirdArgument line whole names trial kind a b behind) _ b behind (argued seconds hs _ q)
+      second-is b behind q = follow (λ b behind. thirdArgument line whole names trial kind a b behind) _ b behind (argued _ hs _ q)
 
       pub second-bad : (r : Reason) (p : ℕ) → arg ≡ Not r p → Fault r p ≡ secondArgument line whole names trial kind a at
       unfolding secondArgument
-      second-bad r p q = follow-bad _ _ r p (argued seconds hs _ q)
+      second-bad r p q = follow-bad _ _ r p (argued _ hs _ q)
 
-    module _ (hs : sort ≡ wanted firsts kind) where
+    module _ (hs : sort ≡ wanted kind .0) where
       pub first-is : (a behind : ℕ) → arg ≡ Is a behind →
           secondArgument line whole names trial kind a behind ≡ firstArgument line whole names trial kind at
       unfolding firstArgument
-      first-is a behind q = follow (λ a behind. secondArgument line whole names trial kind a behind) _ a behind (argued firsts hs _ q)
+      first-is a behind q = follow (λ a behind. secondArgument line whole names trial kind a behind) _ a behind (argued _ hs _ q)
 
       pub first-bad : (r : Reason) (p : ℕ) → arg ≡ Not r p → Fault r p ≡ firstArgument line whole names trial kind at
       unfolding firstArgument
-      first-bad r p q = follow-bad _ _ r p (argued firsts hs _ q)
+      first-bad r p q = follow-bad _ _ r p (argued _ hs _ q)
 
   -- A request that begins with a word: of no kind, or of a kind.
   module _ (trial : Bool) (start end : ℕ) (word : List ℕ) (row kind : ℕ) (er : row ≡ rowFor word) (ek : kind ≡ kindOf row) where

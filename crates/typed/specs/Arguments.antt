@@ -1,10 +1,10 @@
 -- The arguments of a request: numbers, names of things, and masks of tasks. Every definition here computes.
 -- `line` are the bytes of the line, `whole` says whether they are all of it, `names` is the table of names, `at` is where to read on.
 use mathlib.Core.Bool.{Bool, true, false, _&&_}
-use mathlib.Core.List.{List, [], _∷_, _++_}
+use mathlib.Core.List.{List, [], _∷_}
 use Prim.Native.Nat.{ℕ, zero, suc}
 use lib.Dec.{eqb, ltb}
-use lib.ListN.{getD, replicate}
+use lib.ListN.{getD}
 use Rattle.sets.specs.Mask.{with}
 use Rattle.decimal.specs.Decimal.{numberOf}
 use Rattle.decimal.specs.declared.Number.{Number}
@@ -14,6 +14,7 @@ use Rattle.text.specs.Written.{written}
 use Rattle.labels.specs.Names.{isName, found}
 use Rattle.typed.specs.Words.{startFrom, endFrom, wordAt, byWord}
 use Rattle.typed.specs.declared.arguments.Reason.the-variants.{NotNumber, TooLarge, TooFew, TooLong, UnknownName, NotInRange}
+use Rattle.typed.specs.declared.arguments.Takes.{Takes}
 use Rattle.typed.specs.declared.arguments.Value.{Value}
 use Rattle.typed.specs.declared.arguments.Value.the-variants.{Is as value, Not as noValue}
 use Rattle.typed.specs.declared.arguments.Argument.{Argument}
@@ -44,22 +45,40 @@ any = 5
 abbrev pub mask : ℕ
 mask = 6
 
--- What kinds 1 to 21 take as a, ..
-abbrev pub firsts : List ℕ
-firsts = any ∷ task ∷ role ∷ person ∷ replicate 5 task ++ role ∷ role ∷ role ∷ order ∷ task ∷ order ∷ task ∷ role ∷ role ∷ replicate 4 task
+-- a row of the table: what a kind takes as a, b and c
+abbrev pub takes : ℕ → ℕ → ℕ → Takes
+takes a b c = record { 0 = a; 1 = b; 2 = c }
 
--- .. as b ..
-abbrev pub seconds : List ℕ
-seconds =
-    any ∷ replicate 3 unused ++ replicate 4 task ++ role ∷ role ∷ person ∷ person ∷ unused ∷ order ∷ unused ∷ role ∷ role ∷ person ∷ replicate 4 task
+-- Row 0 is of what is no kind: it takes none to three numbers, of any size. Then come kinds 1, 2 and so on.
+abbrev pub table : List Takes
+table =
+    takes any any any
+    ∷ takes task unused unused
+    ∷ takes role unused unused
+    ∷ takes person unused unused
+    ∷ takes task task unused
+    ∷ takes task task unused
+    ∷ takes task task unused
+    ∷ takes task task unused
+    ∷ takes task role unused
+    ∷ takes role role unused
+    ∷ takes role person unused
+    ∷ takes role person unused
+    ∷ takes order unused mask
+    ∷ takes task order person
+    ∷ takes order unused unused
+    ∷ takes task role unused
+    ∷ takes role role unused
+    ∷ takes role person unused
+    ∷ takes task task unused
+    ∷ takes task task unused
+    ∷ takes task task unused
+    ∷ takes task task unused
+    ∷ []
 
--- .. and as c.
-abbrev pub thirds : List ℕ
-thirds = any ∷ replicate 11 unused ++ mask ∷ person ∷ replicate 8 unused
-
--- What is no kind takes none to three numbers, of any size.
-unfoldable pub wanted : List ℕ → ℕ → ℕ
-wanted list kind = getD list kind any
+-- what a kind takes
+unfoldable pub wanted : ℕ → Takes
+wanted kind = getD table kind (takes any any any)
 
 -- the word as a name of the sort
 unfoldable pub calledBy : List ℕ → ℕ → List ℕ → Value

@@ -16,7 +16,7 @@ use Rattle.text.specs.Written.{written}
 use Rattle.labels.specs.Names.{isName, found}
 use Rattle.vocabulary.specs.Vocabulary.{showRow, auditRow, helpRow, quitRow, nameRow, tryRow, rowCount, rowFor, kindOf}
 use Rattle.typed.specs.Words.{startFrom, endFrom, wordAt, byWord}
-use Rattle.typed.specs.Arguments.{thingAt, argumentAt, firsts, seconds, thirds, wanted}
+use Rattle.typed.specs.Arguments.{thingAt, argumentAt, wanted}
 use Rattle.typed.specs.declared.arguments.Reason.the-variants.{UnknownWord, TooLarge, TooFew, TooMany, TooLong, NotSort, NotName, Taken, NotInRange}
 use Rattle.typed.specs.declared.arguments.Argument.{Argument}
 use Rattle.typed.specs.declared.arguments.Argument.the-variants.{Is, Not}
@@ -64,17 +64,17 @@ module _ (line : List ℕ) (whole : Bool) where
     -- the rest of a request, once its kind, a and b are read
     unfoldable pub thirdArgument : Bool → ℕ → ℕ → ℕ → ℕ → Line
     thirdArgument trial kind a b at =
-        following (λ c behind. ends behind (asked trial kind a b c)) (argumentAt line whole names (wanted thirds kind) at)
+        following (λ c behind. ends behind (asked trial kind a b c)) (argumentAt line whole names (wanted kind .2) at)
 
     -- .. once its kind and a are read
     unfoldable pub secondArgument : Bool → ℕ → ℕ → ℕ → Line
     secondArgument trial kind a at =
-        following (λ b behind. thirdArgument trial kind a b behind) (argumentAt line whole names (wanted seconds kind) at)
+        following (λ b behind. thirdArgument trial kind a b behind) (argumentAt line whole names (wanted kind .1) at)
 
     -- .. once its kind is read
     unfoldable pub firstArgument : Bool → ℕ → ℕ → Line
     firstArgument trial kind at =
-        following (λ a behind. secondArgument trial kind a behind) (argumentAt line whole names (wanted firsts kind) at)
+        following (λ a behind. secondArgument trial kind a behind) (argumentAt line whole names (wanted kind .0) at)
 
     -- a request whose kind is given as a number
     unfoldable pub byNumber : Bool → ℕ → ℕ → Number → Line

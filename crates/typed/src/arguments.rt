@@ -1,7 +1,7 @@
 // The arguments of a request: numbers, names of things, and masks of tasks.
 ghost use mathlib.Core.Path.{_≡_};
 ghost use Rattle.typed.specs.Arguments.{valueOf, calledBy, counts, placedAt, thingAt, numberAt, isTasks, tasksFrom, maskAt, argumentAt};
-ghost use Rattle.typed.specs.Arguments.{firsts, seconds, thirds, wanted};
+ghost use Rattle.typed.specs.Arguments.{wanted};
 use crate::words;
 
 // What is wrong with a line.
@@ -48,46 +48,65 @@ const ANY: u64 = 5;
 
 const MASK: u64 = 6;
 
-// How many rows these tables have: one for each kind, and the first for what is none.
+// What a kind takes as a, b and c.
+pub struct Takes(pub u64, pub u64, pub u64);
+
+// Row 0, and one for each kind.
 const ROWS: usize = 22;
 
-const END: u64 = ROWS as u64;
+// By kind, after row 0: what is no kind takes any numbers, none to three of them.
+const TABLE: [Takes; ROWS] = [
+    Takes(ANY, ANY, ANY), // no kind
+    Takes(labels::TASK, UNUSED, UNUSED), // 1
+    Takes(labels::ROLE, UNUSED, UNUSED), // 2
+    Takes(labels::PERSON, UNUSED, UNUSED), // 3
+    Takes(labels::TASK, labels::TASK, UNUSED), // 4
+    Takes(labels::TASK, labels::TASK, UNUSED), // 5
+    Takes(labels::TASK, labels::TASK, UNUSED), // 6
+    Takes(labels::TASK, labels::TASK, UNUSED), // 7
+    Takes(labels::TASK, labels::ROLE, UNUSED), // 8
+    Takes(labels::ROLE, labels::ROLE, UNUSED), // 9
+    Takes(labels::ROLE, labels::PERSON, UNUSED), // 10
+    Takes(labels::ROLE, labels::PERSON, UNUSED), // 11
+    Takes(labels::ORDER, UNUSED, MASK), // 12
+    Takes(labels::TASK, labels::ORDER, labels::PERSON), // 13
+    Takes(labels::ORDER, UNUSED, UNUSED), // 14
+    Takes(labels::TASK, labels::ROLE, UNUSED), // 15
+    Takes(labels::ROLE, labels::ROLE, UNUSED), // 16
+    Takes(labels::ROLE, labels::PERSON, UNUSED), // 17
+    Takes(labels::TASK, labels::TASK, UNUSED), // 18
+    Takes(labels::TASK, labels::TASK, UNUSED), // 19
+    Takes(labels::TASK, labels::TASK, UNUSED), // 20
+    Takes(labels::TASK, labels::TASK, UNUSED), // 21
+];
 
-// What each kind takes first, second and third. What is no kind takes any numbers, none to three of them.
-const FIRST: [u64; ROWS] = [5, 0, 1, 2, 0, 0, 0, 0, 0, 1, 1, 1, 3, 0, 3, 0, 1, 1, 0, 0, 0, 0];
+// The row of a kind.
+fn row_of(kind: u64) -> Takes
+    ensures { λ r. ⌜ r ≡ wanted kind ⌝ }
+{
+    let i = kind as usize;
+    if i < ROWS { TABLE[i] } else { TABLE[0] }
+}
 
-const SECOND: [u64; ROWS] = [5, 4, 4, 4, 0, 0, 0, 0, 1, 1, 2, 2, 4, 3, 4, 1, 1, 2, 0, 0, 0, 0];
-
-const THIRD: [u64; ROWS] = [5, 4, 4, 4, 4, 4, 4, 4, 4, 4, 4, 4, 6, 2, 4, 4, 4, 4, 4, 4, 4, 4];
-
+// What a kind takes first ..
 pub fn first_of(kind: u64) -> u64
-    ensures { λ r. ⌜ r ≡ wanted firsts kind ⌝ }
+    ensures { λ r. ⌜ r ≡ wanted kind .0 ⌝ }
 {
-    if kind < END {
-        FIRST[kind as usize]
-    } else {
-        ANY
-    }
+    row_of(kind).0
 }
 
+// .. second ..
 pub fn second_of(kind: u64) -> u64
-    ensures { λ r. ⌜ r ≡ wanted seconds kind ⌝ }
+    ensures { λ r. ⌜ r ≡ wanted kind .1 ⌝ }
 {
-    if kind < END {
-        SECOND[kind as usize]
-    } else {
-        ANY
-    }
+    row_of(kind).1
 }
 
+// .. and third.
 pub fn third_of(kind: u64) -> u64
-    ensures { λ r. ⌜ r ≡ wanted thirds kind ⌝ }
+    ensures { λ r. ⌜ r ≡ wanted kind .2 ⌝ }
 {
-    if kind < END {
-        THIRD[kind as usize]
-    } else {
-        ANY
-    }
+    row_of(kind).2
 }
 
 // The thing of the sort that a name stands for.
