@@ -9,8 +9,8 @@
  * no copy and no state of its own between calls: the book is all there is.
  *
  * WHAT IS PROVED, for every call whose pointers are as asked below: the four words of the answer and every word of the book
- * afterwards are those of document 01, whatever the words, the count, the kind and the numbers are. Nothing is asked of their
- * values. A damaged book, a wrong count, an unknown kind, numbers out of range: each has its own answer.
+ * afterwards are those of document 01 with M-100 (kinds 18 to 21), whatever the words, the count, the kind and the numbers are.
+ * Nothing is asked of their values. A damaged book, a wrong count, an unknown kind, numbers out of range: each has its own answer.
  *
  * WHAT A CALL DOES AND DOESN'T DO
  *   - It ends. Each loop and each recursion is bounded, and nothing waits. That is proved of the function's run on the
@@ -51,7 +51,7 @@
 
 /* The version of the book and of this library; CHANGELOG.md says when which number moves. */
 #define TOWERPLANK_VERSION_MAJOR 1
-#define TOWERPLANK_VERSION_MINOR 0
+#define TOWERPLANK_VERSION_MINOR 1
 #define TOWERPLANK_VERSION_PATCH 0
 
 /* The same as one number, for #if, and as text. */
@@ -91,7 +91,11 @@
     ROW(14, CLOSE, "close order a") \
     ROW(15, TAKE_TASK, "take task a back from role b") \
     ROW(16, TAKE_JUNIOR, "role a is a direct junior of role b no more") \
-    ROW(17, TAKE_ROLE, "take role a back from person b")
+    ROW(17, TAKE_ROLE, "take role a back from person b") \
+    ROW(18, TAKE_SME, "take back the exclusion of task a and task b (SME)") \
+    ROW(19, TAKE_DME, "take back the exclusion of task a and task b within an order (DME)") \
+    ROW(20, TAKE_RB, "take back the binding of task a and task b to one role (RB)") \
+    ROW(21, TAKE_SB, "take back the binding of task a and task b to one person (SB)")
 
 /*
  * The answers to a request: number, name, and what it says. x and y are the answer's further numbers; tasks, a role and a person
@@ -148,7 +152,7 @@
 #define TOWERPLANK_BROKEN_TEXT_(rule, text) case 40 + (rule): return "rule " #rule " is broken: " text;
 #define TOWERPLANK_ONE_MORE_(number, name, text) + 1
 
-/* TOWERPLANK_DEFINE_TASK is 1, .., TOWERPLANK_TAKE_ROLE is 17. */
+/* TOWERPLANK_DEFINE_TASK is 1, .., TOWERPLANK_TAKE_SB is 21. */
 enum towerplank_kind { TOWERPLANK_KINDS(TOWERPLANK_NAMED_) };
 
 /* How many kinds there are: they are 1 to this. */

@@ -123,7 +123,7 @@ sees() { # COMMAND-OF-SED CHECK: with the list changed so, the check fails
 }
 holds "an answer that only the Rattle side has is seen" sees '/^answer 27 /d' same_answers_listed
 holds "an answer with another number is seen" sees 's/^answer 11 /answer 12 /' same_answers_listed
-holds "a kind that only the header has is seen" sees '$a kind 18 TAKE_SME take back the exclusion of task a and task b' same_kinds_listed
+holds "a kind that only the header has is seen" sees '$a kind 22 LEND lend role a to person b' same_kinds_listed
 holds "a rule that only the Rattle side has is seen" sees '/^finding 50 /d' same_rules_listed
 
 # ---- its names are the panel's words
@@ -152,6 +152,10 @@ close 0
 take-task 2 0
 take-junior 0 1
 take-role 1 0
+take-sme 0 1
+take-dme 2 3
+take-rb 0 2
+take-sb 0 2
 SHIFT
 
 panel_words() {
