@@ -78,7 +78,9 @@ static void run_an_order(void)
     if (!ask("may person 0 sign?", TOWERPLANK_ALLOCATE, SIGN, 0, SEQUENCER)) printf("the list is not signed\n");
     if (ask("may person 1 sign?", TOWERPLANK_ALLOCATE, SIGN, 0, OFFICE)) printf("the list is signed\n");
     audit();
+    ask("who cuts may gauge from now on", TOWERPLANK_TAKE_DME, CUT, GAUGE, 0);
     ask("close order 0", TOWERPLANK_CLOSE, 0, 0, 0);
+    ask("who cuts may gauge from now on", TOWERPLANK_TAKE_DME, CUT, GAUGE, 0);
 }
 
 /* The words of the book that are not what they were. */

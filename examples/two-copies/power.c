@@ -28,7 +28,8 @@ static const request shift[] = {
     {TOWERPLANK_ACTIVATE, 2, 1, 0},     {TOWERPLANK_OPEN, 0, 0, ALL_TASKS}, {TOWERPLANK_OPEN, 63, 0, ALL_TASKS},
     {TOWERPLANK_ALLOCATE, 4, 0, 1},     {TOWERPLANK_ALLOCATE, 8, 0, 1},     {TOWERPLANK_ALLOCATE, 38, 63, 1},
     {TOWERPLANK_TAKE_TASK, 0, 3, 0},    {TOWERPLANK_TAKE_JUNIOR, 1, 2, 0},  {TOWERPLANK_TAKE_ROLE, 3, 1, 0},
-    {TOWERPLANK_CLOSE, 0, 0, 0},        {TOWERPLANK_CLOSE, 63, 0, 0},
+    {TOWERPLANK_CLOSE, 0, 0, 0},        {TOWERPLANK_CLOSE, 63, 0, 0},       {TOWERPLANK_TAKE_SME, 0, 1, 0},
+    {TOWERPLANK_TAKE_DME, 2, 3, 0},     {TOWERPLANK_TAKE_RB, 4, 5, 0},      {TOWERPLANK_TAKE_SB, 5, 6, 0},
 };
 
 static uint64_t book[TOWERPLANK_WORDS];
@@ -161,6 +162,10 @@ static uint64_t second_answer(uint64_t kind)
     case TOWERPLANK_TAKE_TASK:
     case TOWERPLANK_TAKE_JUNIOR:
     case TOWERPLANK_TAKE_ROLE:
+    case TOWERPLANK_TAKE_SME:
+    case TOWERPLANK_TAKE_DME:
+    case TOWERPLANK_TAKE_RB:
+    case TOWERPLANK_TAKE_SB:
         return TOWERPLANK_NOT_THERE;
     default:
         return TOWERPLANK_ALREADY_SET;
