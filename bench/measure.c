@@ -16,7 +16,7 @@ typedef struct { u64 kind, a, b, c; } request; /* kind 0 is the audit */
 typedef struct { u64 at, was; } undo;
 typedef struct { request q; u64 number; double ours, plain; } path;
 
-enum { KINDS = 18, PATHS = 16, ROUNDS = 21, NUMBERS = 16, PAINTED = 8192 };
+enum { KINDS = 22, PATHS = 16, ROUNDS = 21, NUMBERS = 17, PAINTED = 8192 };
 
 static u64 closed[BOOKS][WORDS], opened[BOOKS][WORDS], work[WORDS], twin[WORDS];
 static undo undos[WORDS];
@@ -27,10 +27,10 @@ static double worst[BOOKS], floor_time;
 static u64 stack_ours, stack_plain;
 
 /* what a, b and c are tried with: the ends of each block of the books, and two that are out of range */
-static const u64 numbers[NUMBERS] = {0, 1, 2, 3, 4, 5, 15, 16, 31, 32, 47, 62, 63, 18, 64, UINT64_MAX};
+static const u64 numbers[NUMBERS] = {0, 1, 2, 3, 4, 5, 15, 16, 31, 32, 47, 62, 63, 18, 19, 64, UINT64_MAX};
 
-/* kinds 4 to 7 need a book without open orders */
-static const u64 *book_for(u64 kind, int n) { return kind >= 4 && kind <= 7 ? closed[n] : opened[n]; }
+/* kinds 4 to 7 and 18 to 21 need a book without open orders */
+static const u64 *book_for(u64 kind, int n) { return (kind >= 4 && kind <= 7) || (kind >= 18 && kind <= 21) ? closed[n] : opened[n]; }
 
 static void copy(u64 *to, const u64 *from)
 {

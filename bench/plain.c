@@ -1,6 +1,6 @@
 /*
- * The duty book in plain C, written by hand from document 01: sets are masks, a loop visits only the members of a mask, and a
- * closure reads each row once. It proves nothing; bench/measure.c holds the library to its answers and to its speed.
+ * The duty book in plain C, written by hand from document 01 with M-100: sets are masks, a loop visits only the members of a mask,
+ * and a closure reads each row once. It proves nothing; bench/measure.c holds the library to its answers and to its speed.
  */
 #include "plain.h"
 
@@ -117,11 +117,12 @@ static u64 owned_tasks(const u64 *book, u64 roles) { return tasks_of(book, below
 
 enum { UNUSED, RANGE, TASK, ROLE, SUBJECT, OPEN, MASK };
 
-static const unsigned char asked[18][3] = {
+static const unsigned char asked[22][3] = {
     {UNUSED, UNUSED, UNUSED}, {RANGE, UNUSED, UNUSED}, {RANGE, UNUSED, UNUSED}, {RANGE, UNUSED, UNUSED}, {TASK, TASK, UNUSED},
     {TASK, TASK, UNUSED},     {TASK, TASK, UNUSED},    {TASK, TASK, UNUSED},    {TASK, ROLE, UNUSED},    {ROLE, ROLE, UNUSED},
     {ROLE, SUBJECT, UNUSED},  {ROLE, SUBJECT, UNUSED}, {RANGE, UNUSED, MASK},   {TASK, OPEN, SUBJECT},   {OPEN, UNUSED, UNUSED},
-    {TASK, ROLE, UNUSED},     {ROLE, ROLE, UNUSED},    {ROLE, SUBJECT, UNUSED}};
+    {TASK, ROLE, UNUSED},     {ROLE, ROLE, UNUSED},    {ROLE, SUBJECT, UNUSED}, {TASK, TASK, UNUSED},    {TASK, TASK, UNUSED},
+    {TASK, TASK, UNUSED},     {TASK, TASK, UNUSED}};
 
 static int fits(const u64 *book, int what, u64 v)
 {
@@ -144,12 +145,12 @@ static u64 argument_fault(const u64 *book, u64 kind, u64 a, u64 b, u64 c)
     return kind == 13 && !has(book[ORDERS + b], a);
 }
 
-/* the lowest open order, or 64 */
-static u64 open_order(const u64 *book)
+/* 7 with the lowest open order */
+static reply open_order(const u64 *book)
 {
     for (u64 p = 0; p < 64; p++)
-        if (book[ORDERS + p]) return p;
-    return 64;
+        if (book[ORDERS + p]) return say(7, p, 0);
+    return say(0, 0, 0);
 }
 
 /* kind 13: 8 to 11 */
@@ -163,20 +164,20 @@ static reply allocate_refusal(const u64 *book, u64 a, u64 b, u64 c)
     return unowned ? say(11, lowest(unowned), 0) : say(0, 0, 0);
 }
 
+/* where kinds 4 to 7 and 18 to 21 have their bits */
+static u64 pair_table(u64 place) { return SME + 64 * place; }
+
 /* where kinds 8, 9, 10 and 15, 16, 17 have their bit */
 static u64 staff_table(u64 place) { return place == 0 ? TASKS_OF : place == 1 ? JUNIORS : ROLES_OF; }
 
 /* 5 to 11 */
 static reply refusal(const u64 *book, u64 kind, u64 a, u64 b, u64 c)
 {
-    u64 p;
     switch (kind) {
     case 1: case 2: case 3:
         return say(has(book[kind - 1], a) ? 5 : 0, 0, 0);
     case 4: case 5: case 6: case 7:
-        if (has(book[SME + 64 * (kind - 4) + a], b)) return say(5, 0, 0);
-        p = open_order(book);
-        return p < 64 ? say(7, p, 0) : say(0, 0, 0);
+        return has(book[pair_table(kind - 4) + a], b) ? say(5, 0, 0) : open_order(book);
     case 8: case 9: case 10:
         return say(has(book[staff_table(kind - 8) + b], a) ? 5 : 0, 0, 0);
     case 11:
@@ -187,6 +188,8 @@ static reply refusal(const u64 *book, u64 kind, u64 a, u64 b, u64 c)
         return allocate_refusal(book, a, b, c);
     case 15: case 16: case 17:
         return say(has(book[staff_table(kind - 15) + b], a) ? 0 : 6, 0, 0);
+    case 18: case 19: case 20: case 21:
+        return has(book[pair_table(kind - 18) + a], b) ? open_order(book) : say(6, 0, 0);
     default:
         return say(0, 0, 0);
     }
@@ -315,8 +318,8 @@ static void change(u64 *book, u64 kind, u64 a, u64 b, u64 c)
         book[kind - 1] |= one(a);
         break;
     case 4: case 5: case 6: case 7:
-        book[SME + 64 * (kind - 4) + a] |= one(b);
-        book[SME + 64 * (kind - 4) + b] |= one(a);
+        book[pair_table(kind - 4) + a] |= one(b);
+        book[pair_table(kind - 4) + b] |= one(a);
         break;
     case 8: case 9: case 10:
         book[staff_table(kind - 8) + b] |= one(a);
@@ -326,7 +329,10 @@ static void change(u64 *book, u64 kind, u64 a, u64 b, u64 c)
     case 12: set_order(book, a, c); break;
     case 13: allocate(book, a, b, c); break;
     case 14: set_order(book, a, 0); break;
-    default: book[staff_table(kind - 15) + b] &= ~one(a);
+    case 15: case 16: case 17: book[staff_table(kind - 15) + b] &= ~one(a); break;
+    default:
+        book[pair_table(kind - 18) + b] &= ~one(a);
+        book[pair_table(kind - 18) + a] &= ~one(b);
     }
 }
 
@@ -413,7 +419,7 @@ static reply judge(const u64 *book, size_t words, u64 kind, u64 a, u64 b, u64 c)
     if (words != WORDS) return say(1, 0, 0);
     u64 bad = first_bad(book);
     if (bad < WORDS) return say(2, bad, 0);
-    if (kind < 1 || kind > 17) return say(3, 0, 0);
+    if (kind < 1 || kind > 21) return say(3, 0, 0);
     u64 fault = argument_fault(book, kind, a, b, c);
     if (fault) return say(4, fault, 0);
     reply r = refusal(book, kind, a, b, c);
