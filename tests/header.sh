@@ -172,10 +172,11 @@ panel_words() {
 }
 holds "the header's names are the panel's words, and mean the same kinds" panel_words
 
-# ---- its version is the pages'
+# ---- its version is that of the pages and of the panel
 
 version=$(sed -nE 's/^version [0-9.]+ is ([0-9.]+) is .*/\1/p' "$room/lists")
 newest_is() { [ "$(sed -nE 's/^## \[([0-9][0-9.]*)\].*/\1/p' CHANGELOG.md | head -n 1)" = "$1" ]; }
 holds "the newest version of CHANGELOG.md is the header's, $version" newest_is "$version"
 holds "docs/INTEGRATOR.md speaks of version $version" grep -q "version $version" docs/INTEGRATOR.md
+holds "the panel greets as version $version" grep -q "\"Towerplank $version:" crates/panel/src/main.rt
 rm -rf "$room"
