@@ -26,7 +26,7 @@ static path costliest[KINDS][BOOKS];
 static double worst[BOOKS], floor_time;
 static u64 stack_ours, stack_plain;
 
-/* what a, b and c are tried with: the ends of each block of the books, and two that are out of range */
+/* what a, b and c are tried with: the ends of each block of the books, two tasks of the cell that are SME, and two that are out of range */
 static const u64 numbers[NUMBERS] = {0, 1, 2, 3, 4, 5, 15, 16, 31, 32, 47, 62, 63, 18, 19, 64, UINT64_MAX};
 
 /* kinds 4 to 7 and 18 to 21 need a book without open orders */

@@ -9,8 +9,9 @@
  * no copy and no state of its own between calls: the book is all there is.
  *
  * WHAT IS PROVED, for every call whose pointers are as asked below: the four words of the answer and every word of the book
- * afterwards are those of document 01 with M-100 (kinds 18 to 21), whatever the words, the count, the kind and the numbers are.
- * Nothing is asked of their values. A damaged book, a wrong count, an unknown kind, numbers out of range: each has its own answer.
+ * afterwards are those of document 01 with change request M-100 (kinds 18 to 21), whatever the words, the count, the kind and the
+ * numbers are. Nothing is asked of their values. A damaged book, a wrong count, an unknown kind, numbers out of range: each has its
+ * own answer.
  *
  * WHAT A CALL DOES AND DOESN'T DO
  *   - It ends. Each loop and each recursion is bounded, and nothing waits. That is proved of the function's run on the

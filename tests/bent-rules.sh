@@ -117,7 +117,7 @@ bend "a pair of one table taken back in the next" Requests.antt \
     'setTable d n (takePair (d .row n) a b)' 'setTable d (suc n) (takePair (d .row n) a b)' PairsBack smeBack
 bend "4 where a task need not be defined" Requests.antt \
     'fits d aTask v = ltb v 64 && bit (tasks d) v' 'fits d aTask v = ltb v 64' Guarded undefinedTask
-bend "7 left out of kinds 4 to 7" Numbers.antt '(say 5) (whileOpen d)' '(say 5) accepted' Guarded whileOpen
+bend "7 left out of kinds 4 to 7" Numbers.antt '(say 5) (openRefusal d)' '(say 5) accepted' Guarded whileOpen
 bend "8 left out of kind 13" Numbers.antt '(given (not (activeOwned d c)) (say 8)' '(given false (say 8)' Guarded inNoRole
 
 # ---- A word of the trade, on which a check and a rule both stand: the rule no longer finds what the check still does

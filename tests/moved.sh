@@ -79,8 +79,8 @@ if [ "$(git rev-parse --is-shallow-repository 2>&1)" = false ]; then
             file { print >file }' "$page"
     done
 fi
-shows() { # BLOCK FROM TO
-    "$moved" "$2" "$3" | diff - "$1"
+shows() { # BLOCK FROM TO: and every change is told
+    "$moved" "$2" "$3" | diff - "$1" && "$moved" --check "$2" "$3" >/dev/null
 }
 for commits in "$room"/pages/*.commits; do
     [ -f "$commits" ] && read -r from to <"$commits" && git rev-parse --verify --quiet "$from^{commit}" >/dev/null || continue

@@ -1,6 +1,6 @@
 -- The rules forbid. All that they ask for is that a pair runs both ways. So a sound book stays sound where steps are left out of its
 -- tables, as long as its pair tables still run both ways: of fewer steps there are fewer pairs, and chains lead to no more.
--- Nothing is said of how many steps are left out, nor of which tables lose them.
+-- How many steps are left out, and which of tables 0 to 6 lose them, does not matter.
 use mathlib.Core.Path.{_≡_, sym, ap, _∙_, subst}
 use mathlib.Core.Logic.{_⊎_, inl, inr}
 use Prim.Native.Nat.{ℕ, _<_}

@@ -3,9 +3,9 @@
 use Prim.Native.Nat.{ℕ, _≤_}
 use Rattle.rules.specs.Requests.{Request}
 use Rattle.rules.specs.Meaning.{Fits}
-use Rattle.demands.specs.Demand3.{Passes, Unrefused, Accepted, changed}
+use Rattle.demands.specs.Demand3.{Passes, Unrefused, Accepted, kept}
 
 -- For every book that passes the audit, and every request of kinds 18 to 21 that none of refusals 1 to 11 meets:
--- it is accepted, for nothing conflicts with it, and the audit of the changed book passes.
+-- it is accepted, for nothing conflicts with it, and the book that is kept passes the audit.
 abbrev pub PairsBack : Type 0
-PairsBack = (w : ℕ → ℕ) → Fits w → Passes w → (q : Request) → 18 ≤ q .kind → q .kind ≤ 21 → Unrefused w q → Accepted w q × Passes (changed w q)
+PairsBack = (w : ℕ → ℕ) → Fits w → Passes w → (q : Request) → 18 ≤ q .kind → q .kind ≤ 21 → Unrefused w q → Accepted w q × Passes (kept w q)

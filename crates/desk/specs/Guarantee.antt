@@ -22,7 +22,7 @@ pub record Stored (before after : List ℕ) (q : Request) : Type 0 where
 
 -- the slice was `before` and is `after`; r was answered to q
 pub record Answered (before after : List ℕ) (q : Request) (r : Answer) : Type 0 where
-  -- the number, x and y are those of document 01
+  -- the number, x and y are those of the documents
   pub told : said r ≡ answer (length before) (words before) q
   pub stored : Stored before after q
 

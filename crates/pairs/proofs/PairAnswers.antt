@@ -5,7 +5,7 @@ use Prim.Native.Nat.{ℕ}
 use Rattle.sets.specs.Mask.{bit}
 use Rattle.rules.specs.Book.{Book}
 use Rattle.rules.specs.Requests.{relate, unrelate}
-use Rattle.rules.specs.Numbers.{Said, say, whileOpen, stateRefusal}
+use Rattle.rules.specs.Numbers.{Said, say, openRefusal, stateRefusal}
 use Rattle.deeds.proofs.CascadeLaws.{given-yes, given-no}
 
 module _ (d : Book) (n a b c : ℕ) where
@@ -15,7 +15,7 @@ module _ (d : Book) (n a b c : ℕ) where
   pair-set e = given-yes _ _ _ e
 
   -- Else 7 is asked.
-  pub pair-free : {out : Said} → bit (d .row n a) b ≡ false → out ≡ whileOpen d → out ≡ stateRefusal d (relate n) a b c
+  pub pair-free : {out : Said} → bit (d .row n a) b ≡ false → out ≡ openRefusal d → out ≡ stateRefusal d (relate n) a b c
   unfolding stateRefusal
   pair-free e = given-no _ _ _ e
 
@@ -25,6 +25,6 @@ module _ (d : Book) (n a b c : ℕ) where
   pair-missing e = given-yes _ _ _ e
 
   -- Else 7 is asked.
-  pub pair-there : {out : Said} → not (bit (d .row n a) b) ≡ false → out ≡ whileOpen d → out ≡ stateRefusal d (unrelate n) a b c
+  pub pair-there : {out : Said} → not (bit (d .row n a) b) ≡ false → out ≡ openRefusal d → out ≡ stateRefusal d (unrelate n) a b c
   unfolding stateRefusal
   pair-there e = given-no _ _ _ e

@@ -8,7 +8,7 @@ ghost use mathlib.Core.Path.{_≡_};
 ghost use Prim.Native.Nat.{_<_};
 ghost use Rattle.rules.specs.Book.{tableCount};
 ghost use Rattle.rules.specs.Requests.{relate};
-ghost use Rattle.rules.specs.Numbers.{whileOpen, stateRefusal, pairConflicts, firstOf};
+ghost use Rattle.rules.specs.Numbers.{openRefusal, stateRefusal, pairConflicts, firstOf};
 ghost use Rattle.book.specs.Slice.{tables, Full};
 ghost use Rattle.answers.specs.Answers.{said};
 ghost use Rattle.deeds.specs.Outcome.{decide, Settled};
@@ -16,7 +16,7 @@ ghost use Rattle.deeds.specs.Outcome.{decide, Settled};
 // 7 while an order is open.
 fn open_refusal(book: &[u64]) -> Answer
     requires { ⌜ Full (now book) ⌝ }
-    ensures { λ r. ⌜ said r ≡ whileOpen (tables (now (book .entry))) ⌝ }
+    ensures { λ r. ⌜ said r ≡ openRefusal (tables (now (book .entry))) ⌝ }
 {
     let order = search::lowest_open(book);
     if order < 64 {

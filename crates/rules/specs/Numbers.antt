@@ -95,22 +95,22 @@ allocateRefusal d a b c =
     (cellRefusal d a b (d .row active c)))
 
 -- 7, kinds 4 to 7 and 18 to 21: some order is open; x = lowest
-abbrev pub whileOpen : Book → Said
-whileOpen d = givenLowest 7 (isOpen d) accepted
+abbrev pub openRefusal : Book → Said
+openRefusal d = givenLowest 7 (isOpen d) accepted
 
 -- 3, and 5 to 11, of a kind whose arguments fit. 3: a kind outside 1..21, whose row asks for nothing, so that no 4 comes before it.
 -- In kind 13 the second half of 4 comes first.
 unfoldable pub stateRefusal : Book → Deed → ℕ → ℕ → ℕ → Said
 stateRefusal d nothing a b c = say 3
 stateRefusal d (define n) a b c = given (bit (d .head n) a) (say 5) accepted
-stateRefusal d (relate n) a b c = given (bit (d .row n a) b) (say 5) (whileOpen d)
+stateRefusal d (relate n) a b c = given (bit (d .row n a) b) (say 5) (openRefusal d)
 stateRefusal d (assign n) a b c = given (bit (d .row n b) a) (say 5) accepted
 stateRefusal d activate a b c = given (not (ownsRole d (subject d b) a)) (say 8) accepted
 stateRefusal d openOrder a b c = given (isOpen d a) (say 5) accepted
 stateRefusal d allocate a b c = allocateRefusal d a b c
 stateRefusal d closeOrder a b c = accepted
 stateRefusal d (takeBack n) a b c = given (not (bit (d .row n b) a)) (say 6) accepted
-stateRefusal d (unrelate n) a b c = given (not (bit (d .row n a) b)) (say 6) (whileOpen d)
+stateRefusal d (unrelate n) a b c = given (not (bit (d .row n a) b)) (say 6) (openRefusal d)
 
 -- 3 to 11
 unfoldable pub refusal : Book → Request → Said

@@ -39,7 +39,8 @@ fn of_owners_and_groups(paper: &mut [u8], names: &[u8], n: u64, v: Facts) {
         b"|conflict: role %rx owns both task %ta and task %tb; \
           to resolve: take one of them from the role, or from the junior it comes from (take-task, take-junior)\
           |conflict: person %px owns both task %ta and task %tb; \
-          to resolve: take from them a role that owns one (take-role), or take that task from the role (take-task)\
+          to resolve: take from them a role that owns one (take-role), \
+          or take that task from the role, or from the junior it comes from (take-task, take-junior)\
           |conflict: binding task %ta to task %tb would bind task %tx to task %ty, which exclude each other (SME); \
           to resolve: take that SME back (take-sme), or take bindings back until it no longer would (take-rb, take-sb)\
           |conflict: binding task %ta to task %tb would put task %tx and task %ty into one hand, \
@@ -66,13 +67,15 @@ fn of_gains(paper: &mut [u8], names: &[u8], n: u64, v: Facts) {
           to resolve: take task %ty from it, or from the junior it comes from (take-task, take-junior), \
           assign elsewhere, or take that SME back while no order is open (take-sme), with a DME in its place if need be (dme)\
           |conflict: person %px owns task %ty, which excludes a task of role %ra (SME), which they would gain; \
-          to resolve: take the role with task %ty from them (take-role), task %ty from that role (take-task), \
+          to resolve: take the role with task %ty from them (take-role), \
+          task %ty from that role, or from the junior it comes from (take-task, take-junior), \
           choose someone else, or take that SME back while no order is open (take-sme), with a DME in its place if need be (dme)\
           |conflict: role %rx owns task %ty, which excludes task %ta (SME), which it would gain; \
           to resolve: take task %ty from it, or from the junior it comes from (take-task, take-junior), \
           assign elsewhere, or take that SME back while no order is open (take-sme), with a DME in its place if need be (dme)\
           |conflict: person %px owns task %ty, which excludes task %ta (SME), which they would gain; \
-          to resolve: take the role with task %ty from them (take-role), task %ty from that role (take-task), \
+          to resolve: take the role with task %ty from them (take-role), \
+          task %ty from that role, or from the junior it comes from (take-task, take-junior), \
           choose someone else, or take that SME back while no order is open (take-sme), with a DME in its place if need be (dme)",
         n,
         v,

@@ -18,8 +18,13 @@ fn unfit(paper: &mut [u8], names: &[u8], number: u64, v: Facts) {
 }
 
 // The argument x is no thing of the sort that the kind wants there: the sorts as crate typed numbers them, a task, a role, a person, an
-// order, no argument, any number and a mask. Of these no argument and any number are never at fault.
+// order, no argument, any number and a mask. Of these no argument and any number are never at fault. A number past 63 is told apart:
+// nothing with that number can be defined or opened.
 fn none_of_sort(paper: &mut [u8], names: &[u8], sort: u64, v: Facts) {
+    if (sort <= labels::ORDER) & (63 < v.x) {
+        past_sort(paper, names, sort, v);
+        return;
+    }
     tell_nth(
         paper,
         names,
@@ -61,20 +66,17 @@ fn with(v: Facts, x: u64) -> Facts {
     }
 }
 
-// The first argument x is at fault. Where the request makes the thing, only its number can be; in kind 13 the task may be defined, and not
-// be one of the order's.
+// The first argument x is at fault. In kind 13 the task may be defined, and not be one of the order's.
 fn first_argument(paper: &mut [u8], names: &[u8], v: Facts) {
     let kind = v.kind;
-    let sort = typed::first_of(kind);
     match kind {
-        1..=3 | 12 => past_sort(paper, names, sort, v),
         13 => tell(
             paper,
             names,
             b"refused: task %tx is none of order %ob's tasks",
             v,
         ),
-        _ => none_of_sort(paper, names, sort, v),
+        _ => none_of_sort(paper, names, typed::first_of(kind), v),
     }
 }
 

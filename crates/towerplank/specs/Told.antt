@@ -22,7 +22,7 @@ fourWords s = listed (replyOf s)
 
 -- the book was `before` and is `after`; `four` was told to q
 pub record Told (before after : List ℕ) (q : Request) (four : List ℕ) : Type 0 where
-  -- the number, x and y are those of document 01
+  -- the number, x and y are those of the documents
   pub told : four ≡ fourWords (answer (length before) (words before) q)
   pub stored : Stored before after q
 
