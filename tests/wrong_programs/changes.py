@@ -459,7 +459,8 @@ class Body:
 
 
 def table_changes(source, world, crate, name, first, last):
-    """The entries of a table, each made the next: a number one larger, a case of an enum the one after it, a word with another first letter."""
+    """The entries of a table, each made the next: a number one larger, a case of an enum or a named number the one after it, a word with
+    another first letter."""
     body = Body(source, world, crate, Function(name, [], "", True, first, last))
     for i in range(first, last):
         t = source.tokens[i]
@@ -470,8 +471,9 @@ def table_changes(source, world, crate, name, first, last):
             body.change(i, i + 1, 'b"' + chr(ord(t.text[2]) + 1) + t.text[3:], "table")
         path = body.path(i)[1]
         cases = list(world.cases(crate, path[-2])) if len(path) > 1 else []
-        if t.text in cases:
-            body.change(i, i + 1, cases[(cases.index(t.text) + 1) % len(cases)], "table")
+        names = cases if t.text in cases else world.constant(crate, path)[1]
+        if t.text in names:
+            body.change(i, i + 1, names[(names.index(t.text) + 1) % len(names)], "table")
     return body.changes
 
 
