@@ -21,6 +21,7 @@ unfolding orElse
 gives-way accepted t e = refl
 gives-way (says n r) t e = absurd (true≢false (sym e))
 
+-- Where nothing comes after it, an answer is what it is.
 stands-alone : (s : Said) → orElse s accepted ≡ s
 unfolding orElse
 stands-alone accepted = refl

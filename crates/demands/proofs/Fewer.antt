@@ -68,6 +68,7 @@ module _ (d : Book) (rows : ℕ → ℕ → ℕ) (sound : Sound d) (fewer : (n u
   own-fewer : (m′ m : ℕ) → ((r : ℕ) → In m′ r → In m r) → (t : ℕ) → OwnedFrom (withTables d rows) m′ t → OwnedFrom d m t
   own-fewer m′ m start = owned-map (fewer juniors) (fewer tasksOf) start
 
+  -- So the book with these tables is sound.
   tables-fewer : ((n : ℕ) → n < 4 → Symmetric (Step (rows n))) → rows active ≡ d .row active → rows orders ≡ d .row orders → Sound (withTables d rows)
   tables-fewer turns actives opened = let was = sound .bindings in record {
     gap = sound .gap;

@@ -1,4 +1,4 @@
--- One row of a table changed: the steps that there are before and after. The changes are those of document 01's
+-- One row of a table changed: the steps that there are before and after. The changes are those of the
 -- requests: a bit added to a row, both bits of a pair added, a bit taken back, both bits of a pair taken back.
 use mathlib.Core.Path.{_≡_, refl, sym, ap, _∙_, subst}
 use mathlib.Core.Logic.{_⊎_, inl, inr}
@@ -126,8 +126,9 @@ without-kept m a i h l e n = bit-without m a i h l ∙ and-in e (not-in (eqb a i
 abbrev Other : ℕ → ℕ → Relation
 Other b a u v = u ≡ b → v ≡ a → ⊥
 
+-- What that leaves of the table.
 module _ (rows : ℕ → ℕ) (b a : ℕ) where
-  -- So the step from b to a is gone ..
+  -- The step from b to a is gone ..
   take-gone : a < 64 → (u v : ℕ) → Step (takeFrom rows b a) u v → Other b a u v
   take-gone ha =
       set-cases rows b (without (rows b) a) (λ s x. (v : ℕ) → In x v → Other b a s v)

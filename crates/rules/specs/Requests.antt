@@ -109,10 +109,11 @@ addTo rows r i = setRow rows r (with (rows r) i)
 abbrev pub takeFrom : (ℕ → ℕ) → ℕ → ℕ → ℕ → ℕ
 takeFrom rows r i = setRow rows r (without (rows r) i)
 
--- both bits of a pair
+-- both bits of a pair added
 abbrev pub addPair : (ℕ → ℕ) → ℕ → ℕ → ℕ → ℕ
 addPair rows a b = addTo (addTo rows a b) b a
 
+-- both bits taken back
 abbrev pub takePair : (ℕ → ℕ) → ℕ → ℕ → ℕ → ℕ
 takePair rows a b = takeFrom (takeFrom rows b a) a b
 
