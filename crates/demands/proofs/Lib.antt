@@ -13,3 +13,4 @@ pub mod BlankBook
 pub mod EveryKind
 pub mod Demand3
 pub mod PairsBack
+pub mod ActiveRoles

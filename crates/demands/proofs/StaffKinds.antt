@@ -3,18 +3,18 @@
 -- Kind 9 may also close a cycle (rule 6): it does exactly if a is b, or reaches it (29, 30).
 use mathlib.Core.Path.{_≡_, refl, sym, _∙_, subst}
 use mathlib.Core.Logic.{_⊎_, inl, inr}
-use Prim.Native.Nat.{ℕ, zero, suc, _^_, _<_}
+use Prim.Native.Nat.{ℕ, _^_, _<_}
 use lib.Pow.{pow-lt}
 use Rattle.sets.specs.Mask.{bit}
 use Rattle.sets.proofs.MaskLaws.{one-out}
 use Rattle.chains.specs.Relation.{Relation, In, Step, Chain, stay, more, Reaches}
 use Rattle.chains.proofs.RelationLaws.{chain-map, old-step, new-step, cycle-cases}
-use Rattle.rules.specs.Book.{Book, tasks, roles, subjects, juniors, tasksOf, rolesOf, active}
+use Rattle.rules.specs.Book.{Book, tasks, roles, subjects, juniors, tasksOf, rolesOf}
 use Rattle.rules.specs.Trade.{Owner, role, subject, ownedTasks}
-use Rattle.rules.specs.Requests.{assign, addTo, setTable, firstActive, assigned, change}
+use Rattle.rules.specs.Requests.{assign, addTo, change}
 use Rattle.rules.specs.Numbers.{selfInheritance, cycle, gainedTask, gainedRole, taskAssignment, roleAssignment, ownRoleAssignment}
 use Rattle.rules.specs.Numbers.{taskConflicts, juniorConflicts, roleConflicts, byTable, assignConflicts, conflicts}
-use Rattle.rules.specs.Meaning.{Sized, Symmetric, NoCycle, PairFree, Owned, OwnedFrom, OwnersFree, Sound}
+use Rattle.rules.specs.Meaning.{Sized, Symmetric, NoCycle, PairFree, Owned, OwnedFrom, Sound}
 use Rattle.rules.proofs.Exactly.{Exactly, itself}
 use Rattle.rules.proofs.TradeLaws.{role-lt, owned-lt, owner-shows}
 use Rattle.demands.proofs.RowChanges.{Gets, add-gets, add-between}
@@ -22,7 +22,6 @@ use Rattle.demands.proofs.Tables.{Sme, Junior, Given}
 use Rattle.demands.proofs.Owners.{Grows, owners-kept, owners-needed, task-grows, junior-grows, role-grows}
 use Rattle.demands.proofs.Conflicts.{one-silent, more-silent, Exact, exact, Owning, OwnsRole, silent-self-inheritance, silent-cycle}
 use Rattle.demands.proofs.Conflicts.{silent-task-assignment, silent-role-assignment, silent-own-assignment}
-use Rattle.demands.proofs.UnopposedKinds.{activated}
 
 -- A chain is empty, or reaches.
 chain-reaches : {E : Relation} {i j : ℕ} → Chain E i j → (i ≡ j) ⊎ Reaches E i j
@@ -77,7 +76,7 @@ module _ (d : Book) (sized : Sized d) (sound : Sound d) (a b c : ℕ) (ha : a < 
 
   -- Kind 8: task a is given to role b.
   pub assign-task : In (tasks d) a → In (roles d) b → Exact d (assign tasksOf) a b c
-  unfolding change assigned conflicts assignConflicts byTable taskConflicts
+  unfolding change conflicts assignConflicts byTable taskConflicts
   assign-task da db =
       exact d (assign tasksOf) a b c
       (more-silent (taskAssignment gainedTask) _ d a b (silent-task-assignment d sized a b gainedTask (pow-lt ha) (λ v. itself (bit (2 ^ a) v)))
@@ -103,7 +102,7 @@ module _ (d : Book) (sized : Sized d) (sound : Sound d) (a b c : ℕ) (ha : a < 
 
   -- Kind 9: role a becomes a direct junior of role b.
   pub assign-junior : In (roles d) a → In (roles d) b → Exact d (assign juniors) a b c
-  unfolding change assigned conflicts assignConflicts byTable juniorConflicts
+  unfolding change conflicts assignConflicts byTable juniorConflicts
   assign-junior da db =
       exact d (assign juniors) a b c
       (more-silent selfInheritance _ d a b (silent-self-inheritance d sized a b)
@@ -132,13 +131,13 @@ module _ (d : Book) (sized : Sized d) (sound : Sound d) (a b c : ℕ) (ha : a < 
       grows : (start : Owner) → Grows (Owning d start) (λ o. Owned (Step (now juniors)) (Given d) (In (start o))) (OwnsRole d start b) (OwnedFrom d (role a))
       grows start = junior-grows (Junior d) (Given d) b a (λ o. In (start o)) (Step (now juniors)) (gets juniors)
 
-  -- Kind 10: role a is given to subject b, and becomes active if b has no active role; v is b's active word.
+  -- Kind 10: role a is given to subject b.
   pub assign-role : In (roles d) a → In (subjects d) b → Exact d (assign rolesOf) a b c
-  unfolding change assigned firstActive conflicts assignConflicts byTable roleConflicts
+  unfolding change conflicts assignConflicts byTable roleConflicts
   assign-role da db =
       exact d (assign rolesOf) a b c
       (one-silent ownRoleAssignment d a b (silent-own-assignment d sized a b (owned-lt d sized (role a)) of-role))
-      (λ free. with-active (d .row active b) (record {
+      (λ free. record {
         gap = sound .gap;
         bindings = sound .bindings;
         ranks = record {
@@ -151,16 +150,8 @@ module _ (d : Book) (sized : Sized d) (sound : Sound d) (a b c : ℕ) (ha : a < 
         orders = sound .orders;
         rule7 = sound .rule7;
         rule8 = owners-kept grows turn one-role (sound .rule8) free;
-      }))
-      (λ s. owners-needed grows (rule8-of (d .row active b) s))
+      })
+      (λ s. owners-needed grows (s .rule8))
     where
       grows : Grows (Owning d (subject d)) (λ o. Owned (Junior d) (Given d) (In (now rolesOf o))) (λ o. b ≡ o) (OwnedFrom d (role a))
       grows = role-grows (Junior d) (Given d) b a (Step (d .row rolesOf)) (Step (now rolesOf)) (gets rolesOf)
-
-      with-active : (v : ℕ) → Sound (setTable d rolesOf (now rolesOf)) → Sound (firstActive v (setTable d rolesOf (now rolesOf)) a b)
-      with-active zero s = activated (setTable d rolesOf (now rolesOf)) s a b c da db
-      with-active (suc v) s = s
-
-      rule8-of : (v : ℕ) → Sound (firstActive v (setTable d rolesOf (now rolesOf)) a b) → OwnersFree (setTable d rolesOf (now rolesOf)) (now rolesOf)
-      rule8-of zero s = s .rule8
-      rule8-of (suc v) s = s .rule8

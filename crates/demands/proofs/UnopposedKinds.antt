@@ -11,7 +11,7 @@ use Rattle.sets.proofs.MaskLaws.{zero-none}
 use Rattle.chains.specs.Relation.{Relation, In, Chain}
 use Rattle.rules.specs.Book.{Book, tasks, roles, subjects, SME, DME, RB, SB, juniors, tasksOf, rolesOf, active, orders, roleIn, subjectIn}
 use Rattle.rules.specs.Trade.{role, subject}
-use Rattle.rules.specs.Requests.{Deed, define, activate, openOrder, closeOrder, setRow, addTo, setOrder, setActive, change}
+use Rattle.rules.specs.Requests.{Deed, define, activate, openOrder, closeOrder, setRow, addTo, setOrder, change}
 use Rattle.rules.specs.Numbers.{firstOf, conflicts}
 use Rattle.rules.specs.Meaning.{Between, OneValue, CellWord, Pairs, Sound}
 use Rattle.rules.proofs.ChangeLaws.{set-cases}
@@ -80,9 +80,10 @@ module _ (d : Book) (sound : Sound d) (a b c : ℕ) where
       rule8 = sound .rule8;
     })
 
-  -- Kind 11, and kind 10 where b has no active role: no rule reads the active role.
-  pub activated : In (roles d) a → In (subjects d) b → Sound (setActive d a b)
-  activated da db = record {
+  -- Kind 11: no rule reads the active role.
+  pub activate-exact : In (roles d) a → In (subjects d) b → Exact d activate a b c
+  unfolding change conflicts
+  activate-exact da db = unopposed d activate a b c refl (record {
     gap = sound .gap;
     bindings = sound .bindings;
     ranks = record {
@@ -96,12 +97,7 @@ module _ (d : Book) (sound : Sound d) (a b c : ℕ) where
     orders = sound .orders;
     rule7 = sound .rule7;
     rule8 = sound .rule8;
-  }
-
-  -- Kind 11.
-  pub activate-exact : In (roles d) a → In (subjects d) b → Exact d activate a b c
-  unfolding change conflicts
-  activate-exact da db = unopposed d activate a b c refl (activated da db)
+  })
 
   -- Kinds 12 and 14: order p has the tasks m, and all its cells are 0, so rules 9 and 10 hold in it.
   module _ (p m : ℕ) (defined : (t : ℕ) → In m t → In (tasks d) t) where

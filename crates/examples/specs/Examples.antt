@@ -1,4 +1,5 @@
--- Document 01, "Numbers to check by": P1 to P14 as one computed table. Each "then" is the next step of a run.
+-- Document 01, "Numbers to check by": P1 to P14 as one computed table. Each "then" is the next step of a run. With M-101 a role is active
+-- where it was activated: in book B by its active words, in P14 by a request.
 -- The runs are computed over tables; OnWords.antt says the same of the words that the guarantees speak of.
 use mathlib.Core.Bool.{Bool, true, false, _&&_}
 use mathlib.Core.List.{List, [], _∷_}
@@ -16,7 +17,7 @@ blank = []
 
 -- Book B: tasks 0..5, roles 0..3, subjects 0..2. SME 0-1, DME 2-4, SB 2-3, RB 3-5.
 -- Tasks: role 0 {0}, role 1 {1}, role 2 {2,3}, role 3 {4,5}. Role 2 is junior of role 3.
--- Subject 0 has role 0; subjects 1 and 2 have role 3; those are active.
+-- Subject 0 has role 0; subjects 1 and 2 have role 3; those are active: words 452 to 454 are what activating them left.
 abbrev pub bookB : List Word
 bookB =
     (0, 63) ∷ (1, 15) ∷ (2, 7)
@@ -106,8 +107,8 @@ examples =
     ∷ ask 4 1 3 0 accepted []
     ∷ ask 7 0 2 0 (sayXY 27 1 3) []
     ∷ [])
-    -- P14 tasks 0, 1 SME; role 0 {0}, role 1 {1}; subject 0 has role 0, and it is active. Open order 0 with mask 3,
-    -- task 0 to subject 0, take role 0 back, assign role 1; without activating it, and activated: task 1
+    -- P14 tasks 0, 1 SME; role 0 {0}, role 1 {1}; subject 0 has role 0, and it is active, by kind 11 alone. Open order 0 with mask 3,
+    -- task 0 to subject 0, take role 0 back (the active word stays), assign role 1; without activating it, and activated: task 1
     ∷ on blank
     (ask 1 0 0 0 accepted []
     ∷ ask 1 1 0 0 accepted []
@@ -117,13 +118,14 @@ examples =
     ∷ ask 4 0 1 0 accepted []
     ∷ ask 8 0 0 0 accepted []
     ∷ ask 8 1 1 0 accepted []
-    ∷ ask 10 0 0 0 accepted []
+    ∷ ask 10 0 0 0 accepted ((388, 1) ∷ (452, 0) ∷ [])
+    ∷ ask 11 0 0 0 accepted ((452, 1) ∷ [])
     ∷ ask 12 0 0 3 accepted []
     ∷ ask 13 0 0 0 accepted []
-    ∷ ask 17 0 0 0 accepted []
-    ∷ ask 10 1 0 0 accepted []
+    ∷ ask 17 0 0 0 accepted ((388, 0) ∷ (452, 1) ∷ [])
+    ∷ ask 10 1 0 0 accepted ((388, 2) ∷ (452, 1) ∷ [])
     ∷ ask 13 1 0 0 (say 8) []
-    ∷ ask 11 1 0 0 accepted []
+    ∷ ask 11 1 0 0 accepted ((452, 2) ∷ [])
     ∷ ask 13 1 0 0 (sayXY 33 0 1) []
     ∷ [])
     ∷ []

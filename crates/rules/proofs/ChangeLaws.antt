@@ -4,7 +4,7 @@
 use mathlib.Core.Path.{_≡_, refl, sym, _∙_, subst}
 use mathlib.Core.Logic.{_⊎_, inl, inr}
 use mathlib.Core.Bool.{Bool, true, false, _&&_, not, true≢false}
-use Prim.Native.Nat.{ℕ, zero, suc, _^_, _≤_, _<_}
+use Prim.Native.Nat.{ℕ, suc, _^_, _≤_, _<_}
 use native.Mathlib.Omega.{arith}
 use native.Mathlib.Decide.{decLt}
 use lib.Dec.{ltb, eqb}
@@ -18,7 +18,7 @@ use Rattle.rules.specs.Book.{Book, headWords, tableCount, tasks, SME, DM
 use Rattle.rules.specs.Trade.{roleGroup}
 use Rattle.rules.specs.Requests.{Request, define, relate, assign, activate, openOrder, allocate, closeOrder, takeBack, unrelate, Needs, unused, inRange}
 use Rattle.rules.specs.Requests.{aTask, aRole, aSubject, anOpenOrder, aTaskMask, Row, asks, noRow, table, rowOf, isOpen, fits, setRow, addTo}
-use Rattle.rules.specs.Requests.{takeFrom, setHead, setTable, setOrder, setActive, firstActive, assigned, roleHand, subjectHand, stampedCell}
+use Rattle.rules.specs.Requests.{takeFrom, setHead, setTable, setOrder, setActive, roleHand, subjectHand, stampedCell}
 use Rattle.rules.specs.Requests.{allocated, change}
 use Rattle.rules.specs.Numbers.{accepted, refusal, blind}
 use Rattle.rules.specs.Meaning.{Tall, Sized}
@@ -143,10 +143,6 @@ record Keeps (d e : Book) : Type 0 where
   sized : Sized e
   placed : Placed d → Placed e
 
--- One change after another.
-keeps-then : {d e f : Book} → Keeps d e → Keeps e f → Keeps d f
-keeps-then k l = record { sized = l .sized; placed = λ p. l .placed (k .placed p) }
-
 -- Each piece that a change is made of keeps the book: one word of the head, one table, one order, some cells.
 module _ (d : Book) (s : Sized d) where
   head-keeps : (n a : ℕ) → n < 3 → a < 64 → Keeps d (setHead d (addTo (d .head) n a))
@@ -205,28 +201,8 @@ module _ (d : Book) (s : Sized d) where
       untouched p t h =
           unstamped (eqb p b && bit (roleHand d a b) t) (bit (subjectHand d a b) t) (d .row active c) c (d .cell p t) (elsewhere p t h)
 
--- .. also where the first role assigned becomes the active one.
-first-active-keeps : (v : ℕ) (d : Book) (a b : ℕ) → Sized d → a < 64 → b < 64 → Keeps d (firstActive v d a b)
-unfolding firstActive
-first-active-keeps zero d a b s ha hb = active-keeps d s a b ha hb
-first-active-keeps (suc v) d a b s ha hb = record { sized = s; placed = λ p. p }
-
 -- Every change whose arguments fit keeps the book in its place.
 module _ (d : Book) (s : Sized d) (a b c : ℕ) where
-  assign-keeps : (n : ℕ) → n < tableCount → a < 64 → b < 64 → Keeps d (assigned n d a b)
-  unfolding assigned
-  assign-keeps n h ha hb = go (eqb n rolesOf)
-    where
-      added : Book
-      added = setTable d n (addTo (d .row n) b a)
-
-      k : Keeps d added
-      k = table-keeps d s n _ h (add-tall b a (s .rows n) hb ha)
-
-      go : (t : Bool) → Keeps d (elim t [ true ↦ firstActive (d .row active b) added a b | false ↦ added ])
-      go true = keeps-then k (first-active-keeps (d .row active b) added a b (k .sized) ha hb)
-      go false = k
-
   change-keeps : {row : Row} → Known row → Fitting d row a b c → Keeps d (change d (row .deed) a b c)
   unfolding change fits
   change-keeps no-kind f = record { sized = s; placed = λ p. p }
@@ -238,7 +214,8 @@ module _ (d : Book) (s : Sized d) (a b c : ℕ) where
   change-keeps (assigns {n = n} {x = x} {y = y} h) f =
       let k = held-holding h in
       let low = k .below in
-      assign-keeps n (omega arith) (fits-lt d x a (k .thing) (f .first)) (fits-lt d y b (k .holder) (f .second))
+      table-keeps d s n _ (omega arith)
+      (add-tall b a (s .rows n) (fits-lt d y b (k .holder) (f .second)) (fits-lt d x a (k .thing) (f .first)))
   change-keeps activates f = active-keeps d s a b (fits-lt d aRole a refl (f .first)) (fits-lt d aSubject b refl (f .second))
   change-keeps opens f =
       let known = and-out (not (eqb c 0)) (within c (tasks d)) (f .third) .1 in

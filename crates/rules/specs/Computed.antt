@@ -5,7 +5,7 @@ use Rattle.sets.specs.Search.{lowestFrom, all}
 use Rattle.chains.specs.Closure.{widen, close, group}
 use Rattle.rules.specs.Book.{placeOf, read, write, badMask, names, badActive, badCell, rowTests, badRow, badCellAt, badAt, bad, firstBad}
 use Rattle.rules.specs.Trade.{below, reach, ownedTasks, subjectGroup, roleGroup}
-use Rattle.rules.specs.Requests.{table, rowOf, isOpen, fits, setRow, firstActive, assigned, roleHand, subjectHand, stampedCell, change}
+use Rattle.rules.specs.Requests.{table, rowOf, isOpen, fits, setRow, roleHand, subjectHand, stampedCell, change}
 use Rattle.rules.specs.Numbers.{given, givenLowest, givenPair, argumentFault, activeOwned, allocateRefusal, stateRefusal, refusal}
 use Rattle.rules.specs.Numbers.{selfConstraint, alreadyDme, alreadySme, oneSubjectGroup, oneRoleGroup, roleOwnsBoth, subjectOwnsBoth}
 use Rattle.rules.specs.Numbers.{smeBetweenGroups, dmeBetweenGroups, selfInheritance, cycle, taskAssignment, roleAssignment, ownRoleAssignment}
@@ -18,7 +18,7 @@ unfoldable pub computed : Bool → Bool
 unfolding bit with without within meet joined lowestFrom all widen close group
     placeOf read write badMask names badActive badCell rowTests badRow badCellAt badAt bad firstBad
     below reach ownedTasks subjectGroup roleGroup
-    table rowOf isOpen fits setRow firstActive assigned roleHand subjectHand stampedCell change
+    table rowOf isOpen fits setRow roleHand subjectHand stampedCell change
     given givenLowest givenPair argumentFault activeOwned allocateRefusal stateRefusal refusal
     selfConstraint alreadyDme alreadySme oneSubjectGroup oneRoleGroup roleOwnsBoth subjectOwnsBoth smeBetweenGroups dmeBetweenGroups
     selfInheritance cycle taskAssignment roleAssignment ownRoleAssignment heldBy heldSme heldDme

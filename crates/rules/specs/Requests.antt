@@ -1,7 +1,7 @@
--- Document 01, "Requests", with M-100: the twenty-one kinds, the fixed table of what each argument must be, and the change of each kind.
+-- Document 01, "Requests", with M-100 and M-101: the twenty-one kinds, the fixed table of what each argument must be, and the change of each kind.
 use mathlib.Core.Bool.{Bool, true, false, _&&_, not}
 use mathlib.Core.List.{List, [], _∷_}
-use Prim.Native.Nat.{ℕ, zero, suc}
+use Prim.Native.Nat.{ℕ, suc}
 use lib.Dec.{ltb, eqb}
 use lib.Bits.{bitAnd}
 use lib.ListN.{getD}
@@ -136,16 +136,6 @@ setOrder d p m = record {
 abbrev pub setActive : Book → ℕ → ℕ → Book
 setActive d a b = setTable d active (setRow (d .row active) b (suc a))
 
--- kind 10: if b has no active role, a becomes active; v is b's active word
-unfoldable pub firstActive : ℕ → Book → ℕ → ℕ → Book
-firstActive zero d a b = setActive d a b
-firstActive (suc v) d a b = d
-
-unfoldable pub assigned : ℕ → Book → ℕ → ℕ → Book
-assigned n d a b =
-    let added = setTable d n (addTo (d .row n) b a) in
-    elim (eqb n rolesOf) [ true ↦ firstActive (d .row active b) added a b | false ↦ added ]
-
 -- the tasks of order b in the role group of a, and in its subject group
 unfoldable pub roleHand : Book → ℕ → ℕ → ℕ
 roleHand d a b = bitAnd (roleGroup d a) (d .row orders b)
@@ -174,7 +164,7 @@ unfoldable pub change : Book → Deed → ℕ → ℕ → ℕ → Book
 change d nothing a b c = d
 change d (define n) a b c = setHead d (addTo (d .head) n a)
 change d (relate n) a b c = setTable d n (addPair (d .row n) a b)
-change d (assign n) a b c = assigned n d a b
+change d (assign n) a b c = setTable d n (addTo (d .row n) b a)
 change d activate a b c = setActive d a b
 change d openOrder a b c = setOrder d a c
 change d allocate a b c = allocated d a b c

@@ -4,9 +4,9 @@ use gains::Gain;
 ghost use mathlib.Core.Path.{_≡_};
 ghost use Prim.Native.Nat.{_<_};
 ghost use Rattle.rules.specs.Book.{tableCount};
-ghost use Rattle.rules.specs.Requests.{assign, assigned};
+ghost use Rattle.rules.specs.Requests.{assign};
 ghost use Rattle.rules.specs.Numbers.{stateRefusal, assignConflicts, firstOf};
-ghost use Rattle.book.specs.Slice.{tables, Full, Became};
+ghost use Rattle.book.specs.Slice.{tables, Full};
 ghost use Rattle.answers.specs.Answers.{said};
 ghost use Rattle.deeds.specs.Outcome.{decide, Settled};
 
@@ -46,20 +46,6 @@ fn judge_assignment(book: &[u64], table: u64, a: u64, b: u64) -> Answer
     assign_conflict(book, table, a, b)
 }
 
-// The assignment itself; a subject with no active role gets this one as its active role.
-fn store_assignment(book: &mut [u64], table: u64, a: u64, b: u64)
-    requires { ⌜ Full (now book) × (table < tableCount) × (a < 64) × (b < 64) ⌝ }
-    ensures { λ _. ⌜ Became (now (book .entry)) (now (book .exit)) (λ d. assigned table d a b) ⌝ }
-{
-    let active = book::row(book, book::ACTIVE, b);
-    book::add_to_row(book, table, b, a);
-    if table == book::ROLES_OF {
-        if active == 0 {
-            book::set_row(book, book::ACTIVE, b, a + 1);
-        }
-    }
-}
-
 // Kinds 8 to 10: number a joins row b of the table, where nothing stands in the way.
 pub fn assign(book: &mut [u64], table: u64, a: u64, b: u64) -> Answer
     requires { ⌜ Full (now book) × (table < tableCount) × (a < 64) × (b < 64) ⌝ }
@@ -67,7 +53,7 @@ pub fn assign(book: &mut [u64], table: u64, a: u64, b: u64) -> Answer
 {
     let answer = judge_assignment(book, table, a, b);
     if answers::is_accepted(answer) {
-        store_assignment(book, table, a, b);
+        book::add_to_row(book, table, b, a);
     }
     answer
 }

@@ -1,4 +1,4 @@
--- Judged on the book as it stands; the assignment is stored only where the answer is 0.
+-- Judged on the book as it stands; the bit is stored only where the answer is 0.
 use mathlib.Core.Path.{sym, _∙_}
 use native.Mathlib.Omega.{arith}
 use Rattle.rules.specs.Requests.{change}
@@ -14,8 +14,8 @@ judge-assignment-requires c κs = search needs
 is-accepted-requires : tie.Need-is-accepted-requires
 is-accepted-requires c κs = search needs
 
-store-assignment-requires : tie.Need-store-assignment-requires
-store-assignment-requires c κs = search needs
+add-to-row-requires : tie.Need-add-to-row-requires
+add-to-row-requires c κs = search needs
 
 same-length : tie.Need-same-length
 same-length c = search needs
@@ -23,7 +23,7 @@ same-length c = search needs
 returns : tie.Need-returns
 unfolding change
 returns c =
-    let stored = c .before .before .store-assignment .ensures in
+    let stored = c .before .before .add-to-row .ensures in
     settled-changed (c .before .before .before .before .before .before .judge-assignment .ensures)
     (sym (c .before .before .before .before .before .is-accepted .ensures) ∙ c .before .before .before .before .if1 .taken) (stored .0)
     (stored .1)
@@ -42,7 +42,7 @@ assign-spec =
     (tie.spec
     judge-assignment-requires
     is-accepted-requires
-    store-assignment-requires
+    add-to-row-requires
     same-length
     returns
     same-length-2
