@@ -1,7 +1,9 @@
 # The rules bent, one at a time, as the source papers and hasty programs bend them. Of the bent rules it is proved that they do not meet
 # demand 3: at the book of one trial (crate trials) a request is accepted although the changed book breaks a rule, or refused although
-# it breaks none. Of rules that are only written another way it is proved that the trial still holds. The copy has the definitions
-# and the law that a trial is demand 3 at its book, and no other law: those would be refused for the wording alone.
+# it breaks none. Of changes that let a person act, or stop them, it is proved that they do not meet M-101: after the trial's request,
+# which is not of kind 11, person 0 does not act in what they acted in. Of rules that are only written another way it is proved that the
+# trial still holds. The copy has the definitions and the law that a trial is demand 3 at its book, and no other law: those would be
+# refused for the wording alone.
 # Sourced by .ci/run, or called alone.
 
 type holds >/dev/null 2>&1 || . "$(dirname "${BASH_SOURCE[0]}")/alone"
@@ -12,9 +14,16 @@ bent_count=0
 # What is to be proved at the trial.
 bent_claim() { # CLAIM FAMILY TRIAL
     cat <<END
+use mathlib.Core.Path.{sym}
+use mathlib.Core.Bool.{true≢false}
+use native.Mathlib.Omega.{arith}
 use lib.Dec.{T}
+use borrow.Author.Tests.{eq-eqb}
 use Rattle.rules.specs.Computed.{computed}
+use Rattle.rules.specs.Numbers.{wordsAfter}
+use Rattle.rules.specs.Small.{bookOf}
 use Rattle.demands.specs.Demand3.{ChecksExact}
+use Rattle.demands.specs.ActiveRoles.{OnlyActivate}
 use Rattle.trials.specs.Trial.{fair, agrees, exact}
 use Rattle.trials.specs.$2.{$3}
 use Rattle.trials.proofs.Instances.{demand-3-tried}
@@ -22,6 +31,10 @@ use Rattle.trials.proofs.Instances.{demand-3-tried}
 END
     case $1 in
     refuted) printf '%s\n' 'pub refuted : ChecksExact → ⊥' 'unfolding computed fair agrees exact' "refuted checks = demand-3-tried checks $3" ;;
+    switched)
+        printf '%s\n' 'pub refuted : OnlyActivate → ⊥' 'unfolding computed wordsAfter' \
+            "refuted only = true≢false (sym (eq-eqb _ _ (only (bookOf ($3 .words)) ($3 .request) (λ e. omega arith) 452 (omega arith) (omega arith))))"
+        ;;
     stands) printf '%s\n' "pub stands : T (exact $3)" 'unfolding computed fair agrees exact' 'stands = tt' ;;
     esac
 }
@@ -66,8 +79,9 @@ bent_start() { # CLAIM SENTENCE FILE OLD NEW FAMILY TRIAL
     (bent_verdict "$bent/$bent_count" "$1" "${@:3}" >"$bent/$bent_count.told" && rm -rf "${bent:?}/$bent_count") &
 }
 
-bend() { bent_start refuted "$@"; } # SENTENCE FILE OLD NEW FAMILY TRIAL
-same() { bent_start stands "$@"; }  # SENTENCE FILE OLD NEW FAMILY TRIAL
+bend() { bent_start refuted "$@"; }     # SENTENCE FILE OLD NEW FAMILY TRIAL
+switch() { bent_start switched "$@"; } # SENTENCE FILE OLD NEW FAMILY TRIAL
+same() { bent_start stands "$@"; }     # SENTENCE FILE OLD NEW FAMILY TRIAL
 
 bent_shown() { # TOLD
     [ "$1" = proved ] || { echo "not proved: $1"; return 1; }
@@ -159,11 +173,23 @@ bend "rule 9 of DME pairs alone" Audit.antt 'implies (excludes d u v)' 'implies 
 bend "rule 9 of cells that nobody holds" Audit.antt ' || eqb (subjectIn (d .cell p u)) 0' '' Orders openedOrder
 bend "rule 10 with one S in a role group" Audit.antt 'implies (bit bySubject v)' 'implies (bit byRole v)' Orders boundHands
 
+# ---- Who acts in what, which kind 11 alone says (M-101)
+
+switch "the first role of a person made active, as document 01 had it" Requests.antt \
+    'change d (assign n) a b c = setTable d n (addTo (d .row n) b a)' \
+    'change d (assign n) a b c =
+        let added = setTable d n (addTo (d .row n) b a) in
+        elim (eqb n rolesOf && eqb (d .row active b) 0) [ true ↦ setActive added a b | false ↦ added ]' Staff freeRole
+switch "nobody acting in a role that is taken back" Requests.antt \
+    'setTable d n (takeFrom (d .row n) b a)' 'setTable (setTable d n (takeFrom (d .row n) b a)) active (setRow (d .row active) b 0)' Staff roleBack
+
 # ---- Written another way
 
 same "20 with a test that adds nothing" Numbers.antt 'given (eqb a b) (say 20' 'given (eqb b a || false) (say 20' Pairs ownBinding
 same "the two bits of a pair taken back in the other order" Requests.antt \
     'takePair rows a b = takeFrom (takeFrom rows b a) a b' 'takePair rows a b = takeFrom (takeFrom rows a b) b a' PairsBack dmeBack
+same "the bit of kinds 8 to 10 set twice" Requests.antt \
+    'setTable d n (addTo (d .row n) b a)' 'setTable d n (addTo (addTo (d .row n) b a) b a)' Staff freeRole
 same "25 and 26 with their two tests swapped" Numbers.antt 'bit mine a && bit mine b' 'bit mine b && bit mine a' Pairs roleOwns
 same "27 and 28 with their three tests in another order" Numbers.antt \
     'bit xs u && (bit (rows u) v && bit ys v)' '(bit ys v && bit xs u) && bit (rows u) v' Pairs chainedSme
@@ -180,6 +206,7 @@ for n in $(seq "$bent_count"); do
     { read -r claim; read -r what; read -r trial; } <"$bent/$n.asked"
     case $claim in
     refuted) what="bent: $what. Demand 3 is refuted at the trial $trial" ;;
+    switched) what="bent: $what. That only kind 11 changes an active word is refuted at the trial $trial" ;;
     stands) what="another wording: $what. The trial $trial still holds" ;;
     esac
     holds "$what" bent_shown "$(cat "$bent/$n.told")"

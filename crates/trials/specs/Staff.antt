@@ -1,4 +1,4 @@
--- Trials of kinds 8 to 10, for each conflict of theirs, and an assignment of each kind that nothing stands against.
+-- Trials of kinds 8 to 10, for each conflict of theirs, and an assignment of each kind that nothing stands against; one of kind 17.
 use mathlib.Core.List.{List, [], _∷_}
 use Rattle.rules.specs.Small.{row}
 use Rattle.rules.specs.Book.{SME, DME, juniors, tasksOf, rolesOf, active}
@@ -49,6 +49,11 @@ freeJunior = on ((1, 7) ∷ row juniors 0 2 ∷ row juniors 1 4 ∷ []) 9 2 0 0
 abbrev pub freeRole : Trial
 freeRole = on ((0, 3) ∷ (1, 3) ∷ (2, 1) ∷ row DME 0 2 ∷ row DME 1 1 ∷ row tasksOf 0 1 ∷ row tasksOf 1 2 ∷ row rolesOf 0 1 ∷ []) 10 1 0 0
 
+-- accepted: role 0 taken back from subject 0, who acts in it
+abbrev pub roleBack : Trial
+roleBack = on ((1, 1) ∷ (2, 1) ∷ row rolesOf 0 1 ∷ row active 0 1 ∷ []) 17 0 0 0
+
 abbrev pub assignments : List Trial
 assignments =
-    ownJunior ∷ wideCycle ∷ seniorGains ∷ juniorBrings ∷ subjectGains ∷ subjectReaches ∷ ownRole ∷ freeTask ∷ freeJunior ∷ freeRole ∷ []
+    ownJunior ∷ wideCycle ∷ seniorGains ∷ juniorBrings ∷ subjectGains ∷ subjectReaches ∷ ownRole ∷ freeTask ∷ freeJunior ∷ freeRole ∷ roleBack
+    ∷ []
