@@ -1,4 +1,5 @@
-//! The witness: document 01 with M-100, read literally, so that its answers can be held beside those of the duty book.
+//! The witness: document 01 with M-100 and M-101, read literally, so that its answers can be held beside those of the
+//! duty book.
 //!
 //! `set`, `book` and `trade` say what the words mean, `request` and `audit` are the rules,
 //! `stream` and `count` read and answer cases as text, and `cases` makes them.

@@ -1,4 +1,5 @@
-//! "Requests" and "The numbers that come back", with the kinds of M-100: refusals 1 to 11, the conflicts, the change.
+//! "Requests" and "The numbers that come back", with the kinds of M-100 and kind 10 of M-101: refusals 1 to 11, the
+//! conflicts, the change.
 
 use crate::book::{lowest_bad_word, Book, Cell, Table, EMPTY_CELL, WORDS};
 use crate::set::Set;
@@ -223,10 +224,8 @@ fn change(before: &Book, kind: u64, a: u64, b: u64, c: u64) -> Book {
         4..=7 => put_both(book.pair_tables_mut()[pair_table_of(kind)], a, b),
         8 => book.tasks_of_role[b].put(a),
         9 => book.juniors[b].put(a),
-        10 => {
-            book.roles_of_subject[b].put(a);
-            book.active[b] = before.active[b].or(Some(a));
-        }
+        // M-101, over document 01: the assignment alone. Only kind 11 changes who acts in what.
+        10 => book.roles_of_subject[b].put(a),
         11 => book.active[b] = Some(a),
         12 => {
             book.orders[a] = Set::from_mask(c);

@@ -67,26 +67,52 @@ fn refusals_leave_the_book_untouched() {
     });
 }
 
-/// Every book reached from the blank one passes the audit.
+/// M-101: only kind 11 changes who acts in what, and it changes that alone.
+#[test]
+fn only_kind_11_changes_an_active_word() {
+    let mut activated = 0;
+    walk(text_of_cases(10, 8_000), |words, kind, a, b, c| {
+        let mut after = words.to_vec();
+        let accepted = request(&mut after, kind, a, b, c).0 == 0;
+        if accepted && kind == 11 {
+            let mut expected = words.to_vec();
+            expected[452 + b as usize] = a + 1;
+            assert!(after == expected);
+            activated += u64::from(after != words);
+        } else if accepted {
+            assert!(after[452..=515] == words[452..=515], "kind {kind} with {a}, {b}, {c}");
+        }
+    });
+    assert!(activated > 100, "{activated} active roles changed show too little");
+}
+
+/// Every book reached from the blank one passes the audit. Roles are activated on the way, so that most allocations get
+/// past number 8.
 #[test]
 fn every_book_reached_from_blank_is_sound() {
     let mut desk = Desk::new();
-    let (mut from_blank, mut seen) = (false, 0);
+    let (mut from_blank, mut seen, mut stopped_by_8, mut past_8) = (false, 0, 0, 0);
     each_command(Cursor::new(text_of_cases(4, 8_000)), |command| {
         match command {
             Command::New(length) => from_blank = length == WORDS,
             Command::Word(..) => from_blank = false,
             _ => {}
         }
-        desk.carry_out(command)?;
+        let answer = desk.carry_out(command)?;
         if from_blank {
             assert_eq!(audit(&desk.words), (0, 0, 0));
             seen += 1;
+            match (command, answer) {
+                (Command::Request(13, ..), Some((8, ..))) => stopped_by_8 += 1,
+                (Command::Request(13, ..), Some((0 | 9.., ..))) => past_8 += 1,
+                _ => {}
+            }
         }
         Ok(())
     })
     .expect("the cases are commands");
     assert!(seen > 1500, "{seen} books show too little");
+    assert!(past_8 > 100 && past_8 > 2 * stopped_by_8, "{stopped_by_8} stopped by 8, only {past_8} past it");
 }
 
 /// Reading a well-formed book and writing it again gives the same words.
@@ -126,6 +152,29 @@ fn pairs_are_taken_back_in_every_way() {
     // Of one task with itself the two bits are the same one: four ways, and eight for two tasks.
     assert_eq!(times.len(), 4 * (4 + 8), "{times:?}");
     assert!(times.iter().all(|((one_task, ..), &times)| *one_task || times >= 5), "{times:?}");
+}
+
+/// Roles are assigned to subjects that act in none, in the same role and in another, with a role and without; and each
+/// way of not acting in a role of one's own is met by an allocation that it stops.
+#[test]
+fn roles_are_met_in_every_way() {
+    let (mut assigned, mut stopped) = (BTreeMap::new(), BTreeMap::new());
+    walk(text_of_cases(11, 12_000), |words, kind, a, b, c| match (kind, refusal(words, kind, a, b, c)) {
+        (10, None) => {
+            let book = Book::read(words);
+            let (subject, same) = (b as usize, Some(a as usize));
+            let way = (book.active[subject].map(|role| Some(role) == same), book.roles_of_subject[subject].is_empty());
+            *assigned.entry(way).or_insert(0) += 1;
+        }
+        (13, Some((8, ..))) => {
+            let book = Book::read(words);
+            let way = (book.active[c as usize].is_some(), book.roles_of_subject[c as usize].is_empty());
+            *stopped.entry(way).or_insert(0) += 1;
+        }
+        _ => {}
+    });
+    assert!(assigned.len() == 3 * 2 && assigned.values().all(|&times| times >= 5), "{assigned:?}");
+    assert!(stopped.len() == 2 * 2 && stopped.values().all(|&times| times >= 5), "{stopped:?}");
 }
 
 /// On the blank book each aimed situation gives just the number it aims at.

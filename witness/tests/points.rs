@@ -71,7 +71,7 @@ fn p13() {
 /// The book of P14, up to the assignment of role 1.
 fn book_of_p14() -> Vec<u64> {
     let mut words = defined(2, 2, 1);
-    accept(&mut words, &[(4, 0, 1, 0), (8, 0, 0, 0), (8, 1, 1, 0), (10, 0, 0, 0)]);
+    accept(&mut words, &[(4, 0, 1, 0), (8, 0, 0, 0), (8, 1, 1, 0), (10, 0, 0, 0), (11, 0, 0, 0)]);
     accept(&mut words, &[(12, 0, 0, 3), (13, 0, 0, 0), (17, 0, 0, 0), (10, 1, 0, 0)]);
     words
 }
@@ -82,6 +82,19 @@ fn p14() {
     assert_eq!(ask(&mut words, 13, 1, 0, 0), (8, 0, 0));
     accept(&mut words, &[(11, 1, 0, 0)]);
     assert_eq!(ask(&mut words, 13, 1, 0, 0), (33, 0, 1));
+}
+
+/// M-101: Book B and the book of P14 say who activated what. Without that their first allocations get 8.
+#[test]
+fn without_activating() {
+    let mut words = book_b();
+    words[452..=454].fill(0);
+    accept(&mut words, &[(12, 0, 0, 60)]);
+    assert_eq!(ask(&mut words, 13, 2, 0, 1), (8, 0, 0));
+    accept(&mut words, &[(11, 3, 1, 0), (13, 2, 0, 1)]);
+    let mut words = defined(2, 2, 1);
+    accept(&mut words, &[(4, 0, 1, 0), (8, 0, 0, 0), (8, 1, 1, 0), (10, 0, 0, 0), (12, 0, 0, 3)]);
+    assert_eq!(ask(&mut words, 13, 0, 0, 0), (8, 0, 0));
 }
 
 /// P1, P2, P3, P5 and P13 after the pair that they met was taken back: accepted, or the next conflict of the kind.

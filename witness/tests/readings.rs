@@ -132,6 +132,68 @@ fn open_orders_come_before_conflicts() {
     assert_eq!(ask(&mut words, 4, 0, 1, 0), (5, 0, 0));
 }
 
+/// M-101: kind 10 sets the assignment bit and nothing else, whether the subject acts in no role, in another or in this.
+#[test]
+fn assigning_activates_nothing() {
+    for active in [None, Some(0), Some(1)] {
+        let mut book = plain(0, 2, 2);
+        book.active[1] = active;
+        let mut words = book.words();
+        accept(&mut words, &[(10, 1, 1, 0)]);
+        book.roles_of_subject[1].put(1);
+        assert!(words == book.words());
+    }
+}
+
+/// M-101: the active word is what the last kind 11 made it. Assigning, taking back and assigning again leave it.
+#[test]
+fn only_activating_changes_the_active_word() {
+    let mut words = defined(0, 2, 1);
+    let before = [(10, 0, 0), (10, 1, 0), (11, 1, 2), (17, 0, 2), (17, 1, 2)];
+    let after = [(10, 0, 2), (11, 0, 1), (10, 1, 1), (17, 0, 1)];
+    for (kind, role, active) in before.into_iter().chain(after) {
+        accept(&mut words, &[(kind, role, 0, 0)]);
+        assert_eq!(words[452], active, "after kind {kind} with role {role}");
+    }
+}
+
+/// M-101, "without that, allocating gets number 8": with no role or with one, where none was activated, and where the
+/// active one is not owned now, though another is. It is owned again through a senior as well as by itself.
+#[test]
+fn allocating_needs_a_role_activated_and_owned() {
+    let mut words = defined(1, 2, 1);
+    accept(&mut words, &[(8, 0, 0, 0), (12, 0, 0, 1)]);
+    for asks in [&[][..], &[(10, 0, 0, 0)], &[(10, 1, 0, 0)]] {
+        accept(&mut words, asks);
+        assert_eq!(ask(&mut words, 13, 0, 0, 0), (8, 0, 0));
+    }
+    accept(&mut words, &[(11, 0, 0, 0)]);
+    assert_eq!(ask(&mut words.clone(), 13, 0, 0, 0), (0, 0, 0));
+    for step in [(17, 0, 0, 0), (17, 1, 0, 0), (10, 1, 0, 0)] {
+        accept(&mut words, &[step]);
+        assert_eq!(ask(&mut words, 13, 0, 0, 0), (8, 0, 0));
+    }
+    for step in [(9, 0, 1, 0), (10, 0, 0, 0)] {
+        let mut again = words.clone();
+        accept(&mut again, &[step, (13, 0, 0, 0)]);
+        assert_eq!(again[cell(0, 0)], 129);
+    }
+}
+
+/// M-101: 8 comes before 9, 10 and 11, so an active word of 0 is told first whatever stands in the cell.
+#[test]
+fn no_active_role_is_told_before_the_cell() {
+    let mut book = Book::read(&book_b());
+    book.orders[0] = Set::of(&[0, 2]);
+    (book.cells[0][0], book.cells[0][2]) = (cell_of(0, 0), Cell { role: Some(2), subject: None });
+    for (task, told) in [(0, (9, 0, 0)), (2, (10, 2, 0))] {
+        book.active[1] = Some(3);
+        assert_eq!(asked(&book, 13, task, 0, 1), told);
+        book.active[1] = None;
+        assert_eq!(asked(&book, 13, task, 0, 1), (8, 0, 0));
+    }
+}
+
 /// 9 and 10 look at the cell of task a alone; 10 needs another role than the active one.
 #[test]
 fn the_cell_of_the_task_alone() {

@@ -40,7 +40,7 @@ fn seniors_are_looked_at() {
 #[test]
 fn assignments_do_not_stand_still() {
     let mut words = defined(2, 2, 1);
-    accept(&mut words, &[(4, 0, 1, 0), (8, 0, 0, 0), (8, 1, 1, 0), (10, 0, 0, 0)]);
+    accept(&mut words, &[(4, 0, 1, 0), (8, 0, 0, 0), (8, 1, 1, 0), (10, 0, 0, 0), (11, 0, 0, 0)]);
     accept(&mut words, &[(12, 0, 0, 3), (13, 0, 0, 0), (17, 0, 0, 0)]);
     assert_eq!(ask(&mut words, 13, 1, 0, 0), (8, 0, 0));
     accept(&mut words, &[(10, 1, 0, 0), (11, 1, 0, 0)]);

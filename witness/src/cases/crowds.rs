@@ -127,6 +127,25 @@ fn own_excluding(scene: &mut Scene, role: usize, gained: usize) {
     scene.join(Pair::Sme, owned, gained);
 }
 
+/// A new hand at a job: a role is assigned, activated, taken back and assigned again, another one besides, and after
+/// each step the subject is asked to work. Now and then a step is left out.
+pub fn new_hand(scene: &mut Scene) -> Vec<Ask> {
+    let job = job(scene);
+    let assigned = scene.book.roles_of_subject[job.subject].members().next().unwrap_or(job.role);
+    scene.book.roles_of_subject[job.subject].take(assigned);
+    scene.book.active[job.subject] = None;
+    let (role, assigned, other) = (job.role as u64, assigned as u64, scene.role() as u64);
+    let subject = job.subject as u64;
+    let mut asks = vec![job.ask()];
+    for (kind, role) in [(10, assigned), (11, role), (17, assigned), (10, other), (10, assigned), (11, other)] {
+        if scene.chance.percent(85) {
+            let task = scene.chance.pick(&job.role_bound) as u64;
+            asks.extend([(kind, role, subject, 0), (13, task, job.order as u64, subject)]);
+        }
+    }
+    asks
+}
+
 /// An allocation with any of the troubles 8 to 34 about it.
 pub fn crowded_job(scene: &mut Scene) -> Vec<Ask> {
     let job = job(scene);

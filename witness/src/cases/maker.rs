@@ -4,7 +4,7 @@ use super::asks::{extreme, likely, spoiled, strange_kind, Ask, Floor};
 use super::books::{full, longest, small};
 use super::broken::break_rule;
 use super::chance::Chance;
-use super::crowds::{crowded_gain, crowded_job, crowded_pair};
+use super::crowds::{crowded_gain, crowded_job, crowded_pair, new_hand};
 use super::damage::{damage, WAYS};
 use super::scene::Scene;
 use super::sheet::Sheet;
@@ -56,6 +56,7 @@ impl Maker {
         (0..5).for_each(|_| self.crowded(crowded_pair));
         (0..2).for_each(|_| self.crowded(crowded_gain));
         (0..2).for_each(|_| self.crowded(crowded_job));
+        self.crowded(new_hand);
         (1..=10).for_each(|rule| self.broken(rule));
         for step in 0..4 {
             self.damaged((4 * self.rounds + step) % WAYS);
@@ -79,6 +80,9 @@ impl Maker {
             }
         }
         for kinds in [SETTING_UP, RUNNING, SETTING_UP, RUNNING] {
+            if kinds == RUNNING {
+                self.take_up_roles();
+            }
             for _ in 0..self.chance.between(20, 60) {
                 let kind = self.chance.pick(kinds);
                 self.ask_likely(&floor, kind);
@@ -89,6 +93,18 @@ impl Maker {
             }
         }
         self.sheet.audit();
+    }
+
+    /// Before orders run, most subjects that act in no role activate one they have, else nobody could work.
+    fn take_up_roles(&mut self) {
+        let book = self.sheet.book();
+        for subject in book.subjects.members().filter(|&s| book.active[s].is_none()) {
+            let assigned: Vec<usize> = book.roles_of_subject[subject].members().collect();
+            if !assigned.is_empty() && self.chance.percent(80) {
+                let role = self.chance.pick(&assigned) as u64;
+                self.sheet.ask((11, role, subject as u64, 0));
+            }
+        }
     }
 
     /// Keeps the book as it stands among the sound ones, in the place of an older one if need be.

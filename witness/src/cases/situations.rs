@@ -44,6 +44,7 @@ pub fn lay(scene: &mut Scene, kind: u64, number: u64) -> Ask {
         (_, 28) => excluded_groups(scene, SUBJECT_BOUND, Pair::Dme),
         (_, 31) => gained_by_role(scene, kind),
         (_, 32) => gained_by_subject(scene, kind),
+        (10, _) => assignment(scene),
         (11, _) => activation(scene, number),
         (16, _) => juniors(scene, number),
         _ => quiet(scene, kind),
@@ -271,6 +272,23 @@ fn gained_by_subject(scene: &mut Scene, kind: u64) -> (usize, usize) {
     (a, b)
 }
 
+/// Kind 10: a role for a subject that has another one or none. The subject acts in no role, in that other one, or in
+/// the very role that it gets, as after a taking back; what both roles own excludes a third task alone.
+fn assignment(scene: &mut Scene) -> (usize, usize) {
+    let (role, other, subject) = (scene.role(), scene.role(), scene.subject());
+    let third = scene.task();
+    for owner in [role, other] {
+        let owned = scene.task();
+        scene.let_own(owner, owned);
+        scene.join(Pair::Sme, owned, third);
+    }
+    if scene.chance.percent(60) {
+        scene.book.roles_of_subject[subject].put(other);
+    }
+    scene.book.active[subject] = scene.chance.pick(&[None, None, Some(other), Some(role)]);
+    (role, subject)
+}
+
 /// Kind 11: a role that the subject owns through a chain (0) or does not own though it is active (8).
 fn activation(scene: &mut Scene, number: u64) -> (usize, usize) {
     let (assigned, subject) = (scene.role(), scene.subject());
@@ -304,8 +322,7 @@ fn quiet(scene: &mut Scene, kind: u64) -> (usize, usize) {
     match kind {
         4..=7 => (task, owned),
         8 => (owned, role),
-        9 => (owner, role),
-        _ => (role, subject),
+        _ => (owner, role),
     }
 }
 
@@ -420,11 +437,20 @@ fn hold_harmless(scene: &mut Scene, job: &Job) {
     hold(scene, job, held);
 }
 
-/// The active role is gone, or is no longer owned.
+/// The subject acts in no role, or in one that it does not own now. It has the roles that it had, another one or none.
 fn lose_the_role(scene: &mut Scene, job: &Job) {
-    match scene.chance.percent(50) {
-        true => scene.book.active[job.subject] = None,
-        false => scene.book.roles_of_subject[job.subject] = Set::empty(),
+    let acts_in_none = scene.chance.percent(60);
+    if acts_in_none {
+        scene.book.active[job.subject] = None;
+    }
+    // Roles assigned and none activated is how every subject begins.
+    if acts_in_none && scene.chance.percent(60) {
+        return;
+    }
+    scene.book.roles_of_subject[job.subject] = Set::empty();
+    if scene.chance.percent(50) {
+        let other = scene.role();
+        scene.book.roles_of_subject[job.subject].put(other);
     }
 }
 

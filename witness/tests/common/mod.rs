@@ -37,12 +37,13 @@ pub fn defined(tasks: u64, roles: u64, subjects: u64) -> Vec<u64> {
     words
 }
 
-/// Book B, reached by requests.
+/// Book B, reached by requests: each subject activates the role it has.
 pub fn book_b() -> Vec<u64> {
     let mut words = defined(6, 4, 3);
     accept(&mut words, &[(4, 0, 1, 0), (5, 2, 4, 0), (7, 2, 3, 0), (6, 3, 5, 0)]);
     accept(&mut words, &[(8, 0, 0, 0), (8, 1, 1, 0), (8, 2, 2, 0), (8, 3, 2, 0), (8, 4, 3, 0), (8, 5, 3, 0)]);
     accept(&mut words, &[(9, 2, 3, 0), (10, 0, 0, 0), (10, 3, 1, 0), (10, 3, 2, 0)]);
+    accept(&mut words, &[(11, 0, 0, 0), (11, 3, 1, 0), (11, 3, 2, 0)]);
     words
 }
 
