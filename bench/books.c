@@ -36,6 +36,13 @@ static void define(u64 tasks, u64 roles, u64 subjects)
     for (u64 i = 0; i < subjects; i++) step(SUBJECT, i, 0, 0);
 }
 
+/* a subject that has a role and acts in it */
+static void staff(u64 role, u64 subject)
+{
+    step(GIVE_ROLE, role, subject, 0);
+    step(ACTIVATE, role, subject, 0);
+}
+
 /* a pair table filled between the tasks from..to and from2..to2, but for the one pair that is left for the measured request */
 static void relate(u64 kind, u64 from, u64 to, u64 from2, u64 to2, u64 left, u64 left2)
 {
@@ -56,9 +63,9 @@ static void book_b(void)
     step(RB, 3, 5, 0);
     for (u64 t = 0; t < 6; t++) step(GIVE_TASK, t, tasks_of[t], 0);
     step(JUNIOR, 2, 3, 0);
-    step(GIVE_ROLE, 0, 0, 0);
-    step(GIVE_ROLE, 3, 1, 0);
-    step(GIVE_ROLE, 3, 2, 0);
+    staff(0, 0);
+    staff(3, 1);
+    staff(3, 2);
 }
 
 static void orders_b(void)
@@ -82,7 +89,7 @@ static void book_cell(void)
     }
     for (u64 t = 0; t < 20; t++) step(GIVE_TASK, t, t < 18 ? t / 3 : t - 12, 0);
     for (u64 r = 0; r < 6; r++) step(JUNIOR, r, r < 3 ? 6 : 7, 0);
-    for (u64 s = 0; s < 12; s++) step(GIVE_ROLE, s < 8 ? s : s % 2 ? 7 : 6, s, 0);
+    for (u64 s = 0; s < 12; s++) staff(s < 8 ? s : s % 2 ? 7 : 6, s);
 }
 
 static void orders_cell(void)
@@ -111,9 +118,11 @@ static void book_dense(void)
     for (u64 r = 0; r < 64; r++)
         for (u64 q = r / 32 * 32; q < r; q++)
             if (r != 5 || q != 3) step(JUNIOR, q, r, 0);
-    for (u64 s = 0; s < 64; s++)
-        for (u64 r = 32; r-- > 0;)
+    for (u64 s = 0; s < 64; s++) {
+        for (u64 r = 0; r < 31; r++)
             if (s != 4 || r != 2) step(GIVE_ROLE, s / 32 * 32 + r, s, 0);
+        staff(s / 32 * 32 + 31, s);
+    }
 }
 
 static void orders_dense(void)
@@ -135,7 +144,7 @@ static void book_long(void)
         for (u64 t = 0; t < 63; t++)
             if (r != 5 || t != 1) step(GIVE_TASK, t, r, 0);
     for (u64 r = 1; r < 64; r++) step(JUNIOR, r - 1, r, 0);
-    for (u64 s = 0; s < 64; s++) step(GIVE_ROLE, 63, s, 0);
+    for (u64 s = 0; s < 64; s++) staff(63, s);
 }
 
 static void orders_long(void)

@@ -1,6 +1,6 @@
 /*
- * The duty book in plain C, written by hand from document 01 with M-100: sets are masks, a loop visits only the members of a mask,
- * and a closure reads each row once. It proves nothing; bench/measure.c holds the library to its answers and to its speed.
+ * The duty book in plain C, written by hand from document 01 with M-100 and M-101: sets are masks, a loop visits only the members of a
+ * mask, and a closure reads each row once. It proves nothing; bench/measure.c holds the library to its answers and to its speed.
  */
 #include "plain.h"
 
@@ -321,10 +321,7 @@ static void change(u64 *book, u64 kind, u64 a, u64 b, u64 c)
         book[pair_table(kind - 4) + a] |= one(b);
         book[pair_table(kind - 4) + b] |= one(a);
         break;
-    case 8: case 9: case 10:
-        book[staff_table(kind - 8) + b] |= one(a);
-        if (kind == 10 && book[ACTIVE + b] == 0) book[ACTIVE + b] = a + 1;
-        break;
+    case 8: case 9: case 10: book[staff_table(kind - 8) + b] |= one(a); break;
     case 11: book[ACTIVE + b] = a + 1; break;
     case 12: set_order(book, a, c); break;
     case 13: allocate(book, a, b, c); break;
