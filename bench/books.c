@@ -3,7 +3,6 @@
  * a request is then judged to the end, and the audit asks all ten rules.
  */
 #include "books.h"
-#include "plain.h"
 
 typedef uint64_t u64;
 
@@ -17,14 +16,10 @@ const char *const book_tells[BOOKS] = {
 enum { TASK = 1, ROLE, SUBJECT, SME, DME, RB, SB, GIVE_TASK, JUNIOR, GIVE_ROLE, ACTIVATE, OPEN, ALLOCATE };
 
 static u64 *book;
+static putting *put;
 static int refused;
 
-static int ask(u64 kind, u64 a, u64 b, u64 c)
-{
-    u64 answer[4];
-    plain_request(book, WORDS, kind, a, b, c, answer);
-    return answer[0] == 0;
-}
+static int ask(u64 kind, u64 a, u64 b, u64 c) { return put(book, kind, a, b, c); }
 
 /* a step that has to be accepted */
 static void step(u64 kind, u64 a, u64 b, u64 c) { refused += !ask(kind, a, b, c); }
@@ -155,11 +150,12 @@ static void orders_long(void)
     }
 }
 
-int make_books(int n, u64 *closed, u64 *open)
+int make_books(int n, putting *with, u64 *closed, u64 *open)
 {
     static void (*const tables[BOOKS])(void) = {book_b, book_cell, book_dense, book_long};
     static void (*const orders[BOOKS])(void) = {orders_b, orders_cell, orders_dense, orders_long};
     refused = 0;
+    put = with;
     book = closed;
     tables[n]();
     for (int i = 0; i < WORDS; i++) open[i] = closed[i];

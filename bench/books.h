@@ -10,7 +10,10 @@ enum { WORDS = 4676, BOOKS = 4 };
 extern const char *const book_names[BOOKS];
 extern const char *const book_tells[BOOKS];
 
-/* Makes book n: first without orders, then with them. Every step of it is a request that plain C accepts; returns how many weren't. */
-int make_books(int n, uint64_t *closed, uint64_t *open);
+/* Puts a request to a book; returns whether it was accepted. */
+typedef int putting(uint64_t *book, uint64_t kind, uint64_t a, uint64_t b, uint64_t c);
+
+/* Makes book n of a blank one, first without orders, then with them, by requests that have to be accepted; returns how many weren't. */
+int make_books(int n, putting *with, uint64_t *closed, uint64_t *open);
 
 #endif

@@ -1,6 +1,7 @@
 /*
  * Measures the library against plain C, both in this one process: for each kind and the audit, on each book, how many times as
- * long the library takes. Every request tried is put to both, and the four words and the whole book have to agree.
+ * long the library takes. Every request tried, and every one that makes a book, is put to both, and the four words and the whole book
+ * have to agree.
  * Times are never printed, only ratios of two times of this run; docs/PERFORMANCE.md says how to read them.
  */
 #include <stdint.h>
@@ -45,23 +46,37 @@ static void call(int ours, u64 *book, request q, u64 answer[4])
 
 /* ---- the same answers */
 
-/* Puts q to both, on two copies of the book, which are as they were afterwards; answer is the library's. */
-static void agree(const u64 *book, request q, u64 answer[4])
+/* Puts q to the library on the book and to plain C on its twin, and counts where they differ; answer is the library's. */
+static void put_to_both(u64 *book, request q, u64 answer[4])
 {
     u64 other[4];
     int same = 1;
-    call(1, work, q, answer);
+    call(1, book, q, answer);
     call(0, twin, q, other);
     for (int i = 0; i < 4; i++) same &= answer[i] == other[i];
+    for (int i = 0; i < WORDS; i++) same &= book[i] == twin[i];
+    asked++;
+    differing += !same;
+}
+
+/* Puts q to both, on two copies of the book, which are as they were afterwards. */
+static void agree(const u64 *book, request q, u64 answer[4])
+{
+    put_to_both(work, q, answer);
     undo_count = 0;
     for (u64 i = 0; i < WORDS; i++) {
-        same &= work[i] == twin[i];
         if (work[i] == book[i] && twin[i] == book[i]) continue;
         undos[undo_count++] = (undo){i, book[i]};
         work[i] = twin[i] = book[i];
     }
-    asked++;
-    differing += !same;
+}
+
+/* A step of making a book, put to both too: only here does kind 10 meet subjects that act in no role. */
+static int make_step(u64 *book, u64 kind, u64 a, u64 b, u64 c)
+{
+    u64 answer[4];
+    put_to_both(book, (request){kind, a, b, c}, answer);
+    return answer[0] == 0;
 }
 
 /* ---- stack */
@@ -257,7 +272,8 @@ int main(void)
 {
     int refused = 0, missed = 0;
     for (int n = 0; n < BOOKS; n++) {
-        refused += make_books(n, closed[n], opened[n]);
+        copy(twin, closed[n]);
+        refused += make_books(n, make_step, closed[n], opened[n]);
         printf("%s: %s.\n", book_names[n], book_tells[n]);
     }
     if (refused) printf("%d steps of making the books were refused.\n", refused);
