@@ -9,9 +9,9 @@
  * no copy and no state of its own between calls: the book is all there is.
  *
  * WHAT IS PROVED, for every call whose pointers are as asked below: the four words of the answer and every word of the book
- * afterwards are those of document 01 with change request M-100 (kinds 18 to 21), whatever the words, the count, the kind and the
- * numbers are. Nothing is asked of their values. A damaged book, a wrong count, an unknown kind, numbers out of range: each has its
- * own answer.
+ * afterwards are those of document 01 with change requests M-100 (kinds 18 to 21) and M-101 (kind 10 makes no role active), whatever
+ * the words, the count, the kind and the numbers are. Nothing is asked of their values. A damaged book, a wrong count, an unknown kind,
+ * numbers out of range: each has its own answer.
  *
  * WHAT A CALL DOES AND DOESN'T DO
  *   - It ends. Each loop and each recursion is bounded, and nothing waits. That is proved of the function's run on the
@@ -51,8 +51,8 @@
 #include <stdint.h>
 
 /* The version of the book and of this library; CHANGELOG.md says when which number moves. */
-#define TOWERPLANK_VERSION_MAJOR 1
-#define TOWERPLANK_VERSION_MINOR 1
+#define TOWERPLANK_VERSION_MAJOR 2
+#define TOWERPLANK_VERSION_MINOR 0
 #define TOWERPLANK_VERSION_PATCH 0
 
 /* The same as one number, for #if, and as text. */
@@ -111,7 +111,7 @@
     ROW(5, ALREADY_SET, "this is so already") \
     ROW(6, NOT_THERE, "there is nothing to take back") \
     ROW(7, ORDER_OPEN, "order x is open, and rules between tasks stand still meanwhile") \
-    ROW(8, NOT_OWNED, "the person does not own the role now, or acts in none") \
+    ROW(8, NOT_OWNED, "the person does not own the role; or acts in no role that they own now, and one of theirs has to be activated first") \
     ROW(9, HAS_SUBJECT, "the task is in the hands of person x") \
     ROW(10, HAS_ROLE, "the task is held for role x") \
     ROW(11, TASK_NOT_OWNED, "the role that the person acts in does not own task x, the task itself or one bound to it") \
