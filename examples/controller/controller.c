@@ -60,6 +60,14 @@ static void define_the_cell(void)
     printf("the cell is %s\n", accepted ? "defined" : "not as it should be");
 }
 
+/* Having a role is not acting in it: at the start of a day each person says which of their roles they act in. */
+static void start_the_day(void)
+{
+    int accepted = 1;
+    for (uint64_t who = SEQUENCER; who <= BENCH; who++) accepted &= ask("a person acts in their role", TOWERPLANK_ACTIVATE, who, who, 0);
+    printf("the day %s\n", accepted ? "begins" : "cannot begin");
+}
+
 static void run_an_order(void)
 {
     ask("the sequencer hand as office too", TOWERPLANK_ASSIGN_ROLE, OFFICE, SEQUENCER, 0);
@@ -130,6 +138,7 @@ int main(void)
     memory[0] = memory[TOWERPLANK_WORDS + 1] = beside;
     printf("towerplank %s\n", TOWERPLANK_VERSION);
     define_the_cell();
+    start_the_day();
     run_an_order();
     be_hostile();
     printf("the words beside the book are %s\n", memory[0] == beside && memory[TOWERPLANK_WORDS + 1] == beside ? "untouched" : "overwritten");

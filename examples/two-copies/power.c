@@ -205,7 +205,7 @@ static void try_shift(void)
     bool tried[TOWERPLANK_KIND_COUNT + 1] = {true};
     for (size_t i = 0; i < sizeof shift / sizeof shift[0] && wrong == 0; i++) {
         try_request(shift[i]);
-        if (shift[i].kind == TOWERPLANK_ASSIGN_ROLE && !tried[TOWERPLANK_ASSIGN_ROLE]) try_request_twice(shift[i]);
+        if (shift[i].kind == TOWERPLANK_RB) try_request_twice(shift[i]); /* one request, which changes two words */
         serve_and_ask_again(shift[i]);
         tried[shift[i].kind] = true;
     }
