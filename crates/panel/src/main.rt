@@ -39,13 +39,14 @@ struct State {
 fn say_answer(
     paper: &mut [u8],
     names: &[u8],
+    book: &[u64],
     number: u64,
     request: typed::Request,
     acted: Acted,
     how: How,
 ) {
     if let Acted::Answered(answer) = acted {
-        spoken::answer(paper, names, number, request, answer, how);
+        spoken::answer(paper, names, book, number, request, answer, how);
     }
 }
 
@@ -103,8 +104,24 @@ fn say(
     json: bool,
 ) {
     match line {
-        Line::Ask(r) => say_answer(paper, names, number, r, acted, How { json, trial: false }),
-        Line::Try(r) => say_answer(paper, names, number, r, acted, How { json, trial: true }),
+        Line::Ask(r) => say_answer(
+            paper,
+            names,
+            book,
+            number,
+            r,
+            acted,
+            How { json, trial: false },
+        ),
+        Line::Try(r) => say_answer(
+            paper,
+            names,
+            book,
+            number,
+            r,
+            acted,
+            How { json, trial: true },
+        ),
         _ => say_other(
             paper,
             names,

@@ -16,7 +16,7 @@ pub fn accepted(paper: &mut [u8], names: &[u8], v: Facts) {
           |accepted: in one order, task %ta and task %tb are done by one person (SB)\
           |accepted: role %rb has task %ta\
           |accepted: role %ra is a junior of role %rb, which owns its tasks too\
-          |accepted: person %pb has role %ra, and acts in it if they acted in none\
+          |accepted: person %pb has role %ra\
           |accepted: person %pb now acts in role %ra\
           |accepted: order %oa is open, with tasks %mc\
           |accepted: person %pc does task %ta in order %ob, and what is bound to it\

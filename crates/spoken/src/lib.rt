@@ -7,6 +7,7 @@ mod found;
 mod json;
 mod refused;
 mod sentence;
+mod standing;
 mod wanted;
 
 use sentence::Facts;
@@ -55,10 +56,12 @@ fn whole_sentence(paper: &mut [u8], names: &[u8], number: u64, v: Facts, trial: 
     sentence_of(paper, names, number, v);
 }
 
-// The answer to the request on a line: its number, x and y, then what it means.
+// The answer to the request on a line: its number, x and y, then what it means. A refusal has left the book as it was, so the book
+// tells how the person stood.
 pub fn answer(
     paper: &mut [u8],
     names: &[u8],
+    book: &[u64],
     line: u64,
     request: typed::Request,
     answer: answers::Answer,
@@ -72,6 +75,8 @@ pub fn answer(
         c: request.c,
         x: reply.x,
         y: reply.y,
+        roles: standing::roles_of(book, request.c),
+        active: standing::active_of(book, request.c),
     };
     if how.json {
         json::answer(paper, names, line, reply.number, v, how.trial);

@@ -63,6 +63,8 @@ fn with(v: Facts, x: u64) -> Facts {
         c: v.c,
         x,
         y: v.y,
+        roles: v.roles,
+        active: v.active,
     }
 }
 
@@ -139,16 +141,33 @@ fn order_open(paper: &mut [u8], names: &[u8], v: Facts) {
     );
 }
 
-// Number 8: of kind 11, then of kind 13.
+// Number 8: of kind 11; then of kind 13, where the person acts in no role, or in one that they do not own now, each with no role at all
+// and with some.
 fn not_owned(paper: &mut [u8], names: &[u8], n: u64, v: Facts) {
     tell_nth(
         paper,
         names,
         b"|refused: person %pb does not own role %ra; assign it or a senior of it to them first\
-          |refused: person %pc acts in no role that they own now; activate one of theirs first",
+          |refused: person %pc has no role; assign one to them and activate it first\
+          |refused: person %pc acts in no role; activate one of theirs first\
+          |refused: person %pc acts in role %re, which they do not own now; \
+          assign that role or a senior of it to them first\
+          |refused: person %pc acts in role %re, which they do not own now; \
+          activate one of theirs, or assign that role or a senior of it to them first",
         n,
         v,
     );
+}
+
+// Which of these sentences it is.
+fn not_owned_nth(v: Facts) -> u64 {
+    if v.kind == 11 {
+        return 1;
+    }
+    if v.active == 0 {
+        return if v.roles == 0 { 2 } else { 3 };
+    }
+    if v.roles == 0 { 4 } else { 5 }
 }
 
 // Numbers 9 and 10, and with 11 below, are runtime conflicts in 002: resolutions 16, 17 and 15.
@@ -196,7 +215,7 @@ pub fn refused(paper: &mut [u8], names: &[u8], number: u64, v: Facts) {
         5 => already(paper, names, v),
         6 => not_there(paper, names, if kind < 15 { 0 } else { kind - 14 }, v),
         7 => order_open(paper, names, v),
-        8 => not_owned(paper, names, if kind == 11 { 1 } else { 2 }, v),
+        8 => not_owned(paper, names, not_owned_nth(v), v),
         9..=10 => hands(paper, names, number - 8, v),
         _ => task_not_owned(paper, names, v),
     }

@@ -1,9 +1,11 @@
 // Sentences with things in them. A mark is a %, the sort of the thing (t task, r role, p person, o order, m a mask of tasks, n a number
-// that is none of these), and whose it is: the request's kind (k) or its a, b, c, or the answer's x, y.
+// that is none of these), and whose it is: the request's kind (k) or its a, b, c, the answer's x, y, or the role that person c acts in (e).
 ghost use Prim.Native.Nat.{_<_};
 ghost use lib.ListN.{length};
+use crate::standing;
 
-// The facts that a sentence may tell: the numbers of the request and of its answer.
+// The facts that a sentence may tell: the numbers of the request and of its answer, and how person c of an allocation stands: the roles
+// assigned to them, and their active word.
 pub struct Facts {
     pub kind: u64,
     pub a: u64,
@@ -11,6 +13,8 @@ pub struct Facts {
     pub c: u64,
     pub x: u64,
     pub y: u64,
+    pub roles: u64,
+    pub active: u64,
 }
 
 fn number_of(v: Facts, letter: u8) -> u64 {
@@ -20,6 +24,7 @@ fn number_of(v: Facts, letter: u8) -> u64 {
         b'b' => v.b,
         b'c' => v.c,
         b'x' => v.x,
+        b'e' => standing::acted_in(v.active),
         _ => v.y,
     }
 }
