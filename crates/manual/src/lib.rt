@@ -105,12 +105,14 @@ fn more(paper: &mut [u8], row: u64) {
           back.\nExample: sb 2 3\n\
           |The role owns the task from now on, and so does each role above it and each person who has one of them.\nExample: assign-task 0 0\n\
           |The first role is put below the second, which owns all that the first owns. Roles may not run in a circle.\nExample: junior 2 6\n\
-          |The person owns the role, the roles below it and their tasks. Who acted in no role acts in this one.\nExample: assign-role 0 0\n\
+          |The person owns the role, the roles below it and their tasks. To act in one of these is a request of its own: activate.\n\
+          Example: assign-role 0 0\n\
           |A person acts in one role at a time, one that they own. What they are given to do is done in that role.\nExample: activate 5 6\n\
           |The order gets the tasks named, one or more, each defined. A mask is the sum of 1 for task 0, 2 for task 1, 4 for task 2 and so \
           on.\nExample: open 0 tasks 0 1 2, or open 0 7\n\
           |The person does the task in the open order, and with it the tasks that are bound to it by SB; those bound by RB are held for the \
-          role that the person acts in. That role must own them all.\nExample: allocate 0 0 1 (task 0, order 0, person 1)\n\
+          role that the person acts in. They must act in one that they own now (activate), and it must own all these tasks.\n\
+          Example: allocate 0 0 1 (task 0, order 0, person 1)\n\
           |The order's tasks and who did them are forgotten; its number can be used again.\nExample: close 0\n\
           |The task is taken from the role that it was assigned to. What is in hand in open orders stays there.\nExample: take-task 0 0\n\
           |The step between the two roles is taken back. What is in hand in open orders stays there.\nExample: take-junior 2 6\n\
