@@ -163,14 +163,14 @@ says "nothing is offered where nothing is near" 'frobnicate' "1: no request: 'fr
 # Names, in all four sorts: before the thing is there, given anew, by the old name, taken, unknown, none.
 says "names stand for numbers in all four sorts" \
     'name task 0 wake\nname role 1 hand\nname person 2 otto\nname order 3 morning\ndefine-task wake\ndefine-role hand\ndefine-person otto
-assign-task wake hand\nassign-role hand otto\nopen morning tasks wake\nallocate wake morning otto\nallocate 0 3 2' \
+assign-task wake hand\nassign-role hand otto\nactivate hand otto\nopen morning tasks wake\nallocate wake morning otto\nallocate 0 3 2' \
     '1: task 0 is called wake\n2: role 1 is called hand\n3: person 2 is called otto\n4: order 3 is called morning
 5: 0 0 0  accepted: task 0 (wake) is defined\n6: 0 0 0  accepted: role 1 (hand) is defined
 7: 0 0 0  accepted: person 2 (otto) is defined\n8: 0 0 0  accepted: role 1 (hand) has task 0 (wake)
-9: 0 0 0  accepted: person 2 (otto) has role 1 (hand), and acts in it if they acted in none
-10: 0 0 0  accepted: order 3 (morning) is open, with tasks 0 (wake)
-11: 0 0 0  accepted: person 2 (otto) does task 0 (wake) in order 3 (morning), and what is bound to it
-12: 9 2 0  refused: task 0 (wake) of order 3 (morning) is in the hands of person 2 (otto); to resolve: leave it with them, or close '\
+9: 0 0 0  accepted: person 2 (otto) has role 1 (hand)\n10: 0 0 0  accepted: person 2 (otto) now acts in role 1 (hand)
+11: 0 0 0  accepted: order 3 (morning) is open, with tasks 0 (wake)
+12: 0 0 0  accepted: person 2 (otto) does task 0 (wake) in order 3 (morning), and what is bound to it
+13: 9 2 0  refused: task 0 (wake) of order 3 (morning) is in the hands of person 2 (otto); to resolve: leave it with them, or close '\
 'the order and open it anew'
 says "a name given anew replaces the old one" 'name task 0 wake\nname task wake start\ndefine-task start\nname task 0 start' \
     '1: task 0 is called wake\n2: task 0 is called start\n3: 0 0 0  accepted: task 0 (start) is defined\n4: task 0 is called start'
@@ -195,6 +195,21 @@ says "try changes nothing" 'try define-task 0\ndefine-task 0\ntry define-task 0\
     '1: 0 0 0  tried, the book is as it was: accepted: task 0 is defined\n2: 0 0 0  accepted: task 0 is defined
 3: 5 0 0  tried, the book is as it was: refused: task 0 is already defined\n4: no request: word 2 is missing'
 says "quit ends the shift" 'define-task 0\nquit\ndefine-task 1' '1: 0 0 0  accepted: task 0 is defined'
+
+# An allocation for a person who acts in no role that they own now: what is said goes by how they stand.
+printf '%b' 'name role 0 hand\nname person 63 otto\ndefine-task 2\ndefine-role 0\ndefine-role 5\ndefine-person 63\nassign-task 2 0\nopen 3 4
+allocate 2 3 63\nassign-role 0 63\ntry allocate 2 3 63\nactivate 0 63\nassign-role 5 63\ntake-role 0 63\nallocate 2 3 63
+take-role 5 63\nallocate 2 3 63\n' >"$room/stands"
+tells_standing() {
+    panel <"$room/stands" | grep ': 8 ' >"$room/out"
+    printf '%s\n' '9: 8 0 0  refused: person 63 (otto) has no role; assign one to them and activate it first' \
+        '11: 8 0 0  tried, the book is as it was: refused: person 63 (otto) acts in no role; activate one of theirs first' \
+        '15: 8 0 0  refused: person 63 (otto) acts in role 0 (hand), which they do not own now; activate one of theirs, or assign that role '\
+'or a senior of it to them first' \
+        '17: 8 0 0  refused: person 63 (otto) acts in role 0 (hand), which they do not own now; assign that role or a senior of it to them '\
+'first' | cmp - "$room/out"
+}
+holds "8 of an allocation is told by how the person stands" tells_standing
 
 lists_every_word() {
     printf 'help\n' | panel >"$room/help" || return 1
@@ -272,6 +287,7 @@ json_agrees() { # SHIFT
     panel <"$1" >"$room/plain" && panel --json <"$1" >"$room/json" && tests/panel/json_agrees "$room/plain" "$room/json"
 }
 for shift in shifts/*.txt; do holds "the shift $(basename "$shift" .txt) as JSON has the same facts" json_agrees "$shift"; done
+holds "8 of an allocation as JSON has the same facts" json_agrees "$room/stands"
 printf 'define-task 0\n"\\\x01\xff\xc3\xa9\x7f" 1\nname task 0 "x\\\n%0200d\n' 0 >"$room/bytes"
 holds "bytes of every sort break no JSON" json_agrees "$room/bytes"
 sees_a_difference() {
