@@ -204,10 +204,9 @@ tells_standing() {
     panel <"$room/stands" | grep ': 8 ' >"$room/out"
     printf '%s\n' '9: 8 0 0  refused: person 63 (otto) has no role; assign one to them and activate it first' \
         '11: 8 0 0  tried, the book is as it was: refused: person 63 (otto) acts in no role; activate one of theirs first' \
-        '15: 8 0 0  refused: person 63 (otto) acts in role 0 (hand), which they do not own now; activate one of theirs, or assign that role '\
-'or a senior of it to them first' \
+        '15: 8 0 0  refused: person 63 (otto) acts in role 0 (hand), which they do not own now; activate one of theirs first' \
         '17: 8 0 0  refused: person 63 (otto) acts in role 0 (hand), which they do not own now; assign that role or a senior of it to them '\
-'first' | cmp - "$room/out"
+'first, or another role and activate it' | cmp - "$room/out"
 }
 holds "8 of an allocation is told by how the person stands" tells_standing
 

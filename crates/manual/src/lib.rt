@@ -107,16 +107,18 @@ fn more(paper: &mut [u8], row: u64) {
           |The first role is put below the second, which owns all that the first owns. Roles may not run in a circle.\nExample: junior 2 6\n\
           |The person owns the role, the roles below it and their tasks. To act in one of these is a request of its own: activate.\n\
           Example: assign-role 0 0\n\
-          |A person acts in one role at a time, one that they own. What they are given to do is done in that role.\nExample: activate 5 6\n\
+          |The person acts in the role, one that they own, until they act in another. What they are given to do is done in that role.\n\
+          Example: activate 5 6\n\
           |The order gets the tasks named, one or more, each defined. A mask is the sum of 1 for task 0, 2 for task 1, 4 for task 2 and so \
           on.\nExample: open 0 tasks 0 1 2, or open 0 7\n\
           |The person does the task in the open order, and with it the tasks that are bound to it by SB; those bound by RB are held for the \
-          role that the person acts in. They must act in one that they own now (activate), and it must own all these tasks.\n\
+          role that the person acts in. The person must act in a role that they own now (activate), and that role must own all these tasks.\n\
           Example: allocate 0 0 1 (task 0, order 0, person 1)\n\
           |The order's tasks and who did them are forgotten; its number can be used again.\nExample: close 0\n\
           |The task is taken from the role that it was assigned to. What is in hand in open orders stays there.\nExample: take-task 0 0\n\
           |The step between the two roles is taken back. What is in hand in open orders stays there.\nExample: take-junior 2 6\n\
-          |The role is taken from the person. What is in hand in open orders stays there.\nExample: take-role 4 4\n\
+          |The role is taken from the person. What is in hand in open orders stays there, and who acted in the role still does: they are \
+          given nothing more to do before they own it again or act in another (activate).\nExample: take-role 4 4\n\
           |The static exclusion of the two tasks is taken back: one role or person may own both. No order may be open.\nExample: take-sme 0 1\n\
           |The dynamic exclusion of the two tasks is taken back. No order may be open.\nExample: take-dme 2 4\n\
           |The role binding of the two tasks is taken back; other bindings may still join them. No order may be open.\nExample: take-rb 6 7\n\

@@ -142,7 +142,7 @@ fn order_open(paper: &mut [u8], names: &[u8], v: Facts) {
 }
 
 // Number 8: of kind 11; then of kind 13, where the person acts in no role, or in one that they do not own now, each with no role at all
-// and with some.
+// and with some. Who has some is not offered the old role again: what they own may exclude its tasks (32).
 fn not_owned(paper: &mut [u8], names: &[u8], n: u64, v: Facts) {
     tell_nth(
         paper,
@@ -151,9 +151,8 @@ fn not_owned(paper: &mut [u8], names: &[u8], n: u64, v: Facts) {
           |refused: person %pc has no role; assign one to them and activate it first\
           |refused: person %pc acts in no role; activate one of theirs first\
           |refused: person %pc acts in role %re, which they do not own now; \
-          assign that role or a senior of it to them first\
-          |refused: person %pc acts in role %re, which they do not own now; \
-          activate one of theirs, or assign that role or a senior of it to them first",
+          assign that role or a senior of it to them first, or another role and activate it\
+          |refused: person %pc acts in role %re, which they do not own now; activate one of theirs first",
         n,
         v,
     );

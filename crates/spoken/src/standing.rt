@@ -4,7 +4,7 @@ ghost use Prim.Native.Nat.{_-_, _<_};
 ghost use Rattle.rules.specs.Book.{tableCount, rolesOf, active};
 ghost use Rattle.book.specs.Slice.{tables, Full};
 
-// Row n of a table; 0 where the slice is no book, or no row has that number.
+// Row n of a table, 0 past the last row. Of a slice that is no book nothing is promised.
 fn row_of(book: &[u64], table: u64, n: u64) -> u64
     requires { ⌜ table < tableCount ⌝ }
     ensures { λ v. ⌜ (Full (now (book .entry)) → (v ≡ (tables (now (book .entry))) .row table n)) ⌝ }
