@@ -17,12 +17,12 @@ bent_claim() { # CLAIM FAMILY TRIAL
 use mathlib.Core.Path.{sym}
 use mathlib.Core.Bool.{true≢false}
 use native.Mathlib.Omega.{arith}
-use lib.Dec.{T}
+use lib.Dec.{T, eqb}
 use borrow.Author.Tests.{eq-eqb}
 use Rattle.rules.specs.Computed.{computed}
 use Rattle.rules.specs.Numbers.{wordsAfter}
 use Rattle.rules.specs.Small.{bookOf}
-use Rattle.demands.specs.Demand3.{ChecksExact}
+use Rattle.demands.specs.Demand3.{ChecksExact, kept}
 use Rattle.demands.specs.ActiveRoles.{OnlyActivate}
 use Rattle.trials.specs.Trial.{fair, agrees, exact}
 use Rattle.trials.specs.$2.{$3}
@@ -34,6 +34,10 @@ END
     switched)
         printf '%s\n' 'pub refuted : OnlyActivate → ⊥' 'unfolding computed wordsAfter' \
             "refuted only = true≢false (sym (eq-eqb _ _ (only (bookOf ($3 .words)) ($3 .request) (λ e. omega arith) 452 (omega arith) (omega arith))))"
+        ;;
+    stays)
+        printf '%s\n' "pub stays : T (eqb (kept (bookOf ($3 .words)) ($3 .request) 452) (bookOf ($3 .words) 452))" \
+            'unfolding computed wordsAfter' 'stays = tt'
         ;;
     stands) printf '%s\n' "pub stands : T (exact $3)" 'unfolding computed fair agrees exact' 'stands = tt' ;;
     esac
@@ -81,6 +85,7 @@ bent_start() { # CLAIM SENTENCE FILE OLD NEW FAMILY TRIAL
 
 bend() { bent_start refuted "$@"; }     # SENTENCE FILE OLD NEW FAMILY TRIAL
 switch() { bent_start switched "$@"; } # SENTENCE FILE OLD NEW FAMILY TRIAL
+stays() { bent_start stays "$@"; }     # SENTENCE FILE OLD NEW FAMILY TRIAL
 same() { bent_start stands "$@"; }     # SENTENCE FILE OLD NEW FAMILY TRIAL
 
 bent_shown() { # TOLD
@@ -175,21 +180,26 @@ bend "rule 10 with one S in a role group" Audit.antt 'implies (bit bySubject v)'
 
 # ---- Who acts in what, which kind 11 alone says (M-101)
 
-switch "the first role of a person made active, as document 01 had it" Requests.antt \
+switch "a role made active for a person who acts in none, as document 01 had it" Requests.antt \
     'change d (assign n) a b c = setTable d n (addTo (d .row n) b a)' \
     'change d (assign n) a b c =
         let added = setTable d n (addTo (d .row n) b a) in
         elim (eqb n rolesOf && eqb (d .row active b) 0) [ true ↦ setActive added a b | false ↦ added ]' Staff freeRole
 switch "nobody acting in a role that is taken back" Requests.antt \
-    'setTable d n (takeFrom (d .row n) b a)' 'setTable (setTable d n (takeFrom (d .row n) b a)) active (setRow (d .row active) b 0)' Staff roleBack
+    'change d (takeBack n) a b c = setTable d n (takeFrom (d .row n) b a)' \
+    'change d (takeBack n) a b c =
+        let less = setTable d n (takeFrom (d .row n) b a) in
+        elim (eqb n rolesOf && eqb (d .row active b) (suc a)) [ true ↦ setTable less active (setRow (d .row active) b 0) | false ↦ less ]' \
+    Staff roleBack
+
+stays "the bit of kinds 8 to 10 set twice" Requests.antt \
+    'setTable d n (addTo (d .row n) b a)' 'setTable d n (addTo (addTo (d .row n) b a) b a)' Staff freeRole
 
 # ---- Written another way
 
 same "20 with a test that adds nothing" Numbers.antt 'given (eqb a b) (say 20' 'given (eqb b a || false) (say 20' Pairs ownBinding
 same "the two bits of a pair taken back in the other order" Requests.antt \
     'takePair rows a b = takeFrom (takeFrom rows b a) a b' 'takePair rows a b = takeFrom (takeFrom rows a b) b a' PairsBack dmeBack
-same "the bit of kinds 8 to 10 set twice" Requests.antt \
-    'setTable d n (addTo (d .row n) b a)' 'setTable d n (addTo (addTo (d .row n) b a) b a)' Staff freeRole
 same "25 and 26 with their two tests swapped" Numbers.antt 'bit mine a && bit mine b' 'bit mine b && bit mine a' Pairs roleOwns
 same "27 and 28 with their three tests in another order" Numbers.antt \
     'bit xs u && (bit (rows u) v && bit ys v)' '(bit ys v && bit xs u) && bit (rows u) v' Pairs chainedSme
@@ -207,6 +217,7 @@ for n in $(seq "$bent_count"); do
     case $claim in
     refuted) what="bent: $what. Demand 3 is refuted at the trial $trial" ;;
     switched) what="bent: $what. That only kind 11 changes an active word is refuted at the trial $trial" ;;
+    stays) what="another wording: $what. The active word still stays at the trial $trial" ;;
     stands) what="another wording: $what. The trial $trial still holds" ;;
     esac
     holds "$what" bent_shown "$(cat "$bent/$n.told")"

@@ -24,7 +24,7 @@ pub data Deed : Type 0 where
   define : ℕ → Deed
   -- 4, 5, 6, 7: add SME, DME, RB, SB between tasks a and b (the pair table)
   relate : ℕ → Deed
-  -- 8, 9, 10: assign task a to role b; make role a a direct junior of role b; assign role a to subject b
+  -- 8, 9, 10: assign task a to role b; make role a a direct junior of role b; assign role a to subject b (with M-101 nothing becomes active)
   assign : ℕ → Deed
   -- 11: make role a the active role of subject b
   activate : Deed
