@@ -111,7 +111,7 @@
     ROW(5, ALREADY_SET, "this is so already") \
     ROW(6, NOT_THERE, "there is nothing to take back") \
     ROW(7, ORDER_OPEN, "order x is open, and rules between tasks stand still meanwhile") \
-    ROW(8, NOT_OWNED, "the person does not own the role; or acts in no role that they own now, and one of theirs has to be activated first") \
+    ROW(8, NOT_OWNED, "the person does not own the role; or acts in no role that they own now, and has to act in one first") \
     ROW(9, HAS_SUBJECT, "the task is in the hands of person x") \
     ROW(10, HAS_ROLE, "the task is held for role x") \
     ROW(11, TASK_NOT_OWNED, "the role that the person acts in does not own task x, the task itself or one bound to it") \
