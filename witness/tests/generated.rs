@@ -154,17 +154,22 @@ fn pairs_are_taken_back_in_every_way() {
     assert!(times.iter().all(|((one_task, ..), &times)| *one_task || times >= 5), "{times:?}");
 }
 
-/// Roles are assigned to subjects that act in none, in the same role and in another, with a role and without; and each
-/// way of not acting in a role of one's own is met by an allocation that it stops.
+/// Roles are assigned to subjects that act in none, in the same role and in another, with a role and without; they are
+/// taken back from such subjects too; and each way of not acting in a role of one's own is met by an allocation that it
+/// stops.
 #[test]
 fn roles_are_met_in_every_way() {
-    let (mut assigned, mut stopped) = (BTreeMap::new(), BTreeMap::new());
+    let (mut assigned, mut taken, mut stopped) = (BTreeMap::new(), BTreeMap::new(), BTreeMap::new());
     walk(text_of_cases(11, 12_000), |words, kind, a, b, c| match (kind, refusal(words, kind, a, b, c)) {
         (10, None) => {
             let book = Book::read(words);
             let (subject, same) = (b as usize, Some(a as usize));
             let way = (book.active[subject].map(|role| Some(role) == same), book.roles_of_subject[subject].is_empty());
             *assigned.entry(way).or_insert(0) += 1;
+        }
+        (17, None) => {
+            let active = Book::read(words).active[b as usize];
+            *taken.entry(active.map(|role| role == a as usize)).or_insert(0) += 1;
         }
         (13, Some((8, ..))) => {
             let book = Book::read(words);
@@ -174,6 +179,7 @@ fn roles_are_met_in_every_way() {
         _ => {}
     });
     assert!(assigned.len() == 3 * 2 && assigned.values().all(|&times| times >= 5), "{assigned:?}");
+    assert!(taken.len() == 3 && taken.values().all(|&times| times >= 5), "{taken:?}");
     assert!(stopped.len() == 2 * 2 && stopped.values().all(|&times| times >= 5), "{stopped:?}");
 }
 
