@@ -25,7 +25,7 @@ unfolding answer given
 whole-answer w q = refl
 
 -- Statement 1, of the tables.
-book-exact : (d : Book) → Sized d → audit d ≡ accepted → (q : Request) → refusal d q ≡ accepted → (audit (blind d q) ≡ accepted) ↔ (judge d q ≡ accepted)
+pub book-exact : (d : Book) → Sized d → audit d ≡ accepted → (q : Request) → refusal d q ≡ accepted → (audit (blind d q) ≡ accepted) ↔ (judge d q ≡ accepted)
 unfolding blind conflict
 book-exact d sized passes q e =
     let sound = audit-sound d sized passes in
@@ -57,7 +57,7 @@ book-kept w q = (λ e i. ap (λ (s : Said). wordsAfter s w q i) e, λ f i. untou
     untouched (says n r) f i = refl
 
 -- A step from a book that passes leads to one that passes: an accepted request changes it soundly, any other leaves it.
-step-passes : (w : ℕ → ℕ) (q : Request) → Sized (read w) → demand.Passes w → Sized (read (demand.kept w q)) × demand.Passes (demand.kept w q)
+pub step-passes : (w : ℕ → ℕ) (q : Request) → Sized (read w) → demand.Passes w → Sized (read (demand.kept w q)) × demand.Passes (demand.kept w q)
 unfolding wordsAfter
 step-passes w q sized passes = go (answer bookWords w q) refl
   where

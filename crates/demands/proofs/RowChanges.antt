@@ -129,14 +129,14 @@ Other b a u v = u ≡ b → v ≡ a → ⊥
 -- What that leaves of the table.
 module _ (rows : ℕ → ℕ) (b a : ℕ) where
   -- The step from b to a is gone ..
-  take-gone : a < 64 → (u v : ℕ) → Step (takeFrom rows b a) u v → Other b a u v
+  pub take-gone : a < 64 → (u v : ℕ) → Step (takeFrom rows b a) u v → Other b a u v
   take-gone ha =
       set-cases rows b (without (rows b) a) (λ s x. (v : ℕ) → In x v → Other b a s v)
       (λ v e p q. without-gone (rows b) a ha (subst (In (without (rows b) a)) q e))
       (λ s n v e p q. n p)
 
   -- .. and every other is kept.
-  take-kept : Tall rows → a < 64 → (u v : ℕ) → Step rows u v → Other b a u v → Step (takeFrom rows b a) u v
+  pub take-kept : Tall rows → a < 64 → (u v : ℕ) → Step rows u v → Other b a u v → Step (takeFrom rows b a) u v
   take-kept tall ha =
       set-cases rows b (without (rows b) a) (λ s x. (v : ℕ) → Step rows s v → Other b a s v → In x v)
       (λ v e f. without-kept (rows b) a v ha (step-to tall b v e) e (f refl))
@@ -145,13 +145,21 @@ module _ (rows : ℕ → ℕ) (b a : ℕ) where
 -- Both bits of the pair a, b are taken.
 module _ (rows : ℕ → ℕ) (a b : ℕ) where
   -- No step is new ..
-  pub pair-gone : (u v : ℕ) → Step (takePair rows a b) u v → Step rows u v
-  pair-gone u v e = take-old rows b a u v (take-old (takeFrom rows b a) a b u v e)
+  pub pair-old : (u v : ℕ) → Step (takePair rows a b) u v → Step rows u v
+  pair-old u v e = take-old rows b a u v (take-old (takeFrom rows b a) a b u v e)
+
+  -- .. the two of the pair are gone ..
+  pub pair-gone : a < 64 → b < 64 → (u v : ℕ) → Step (takePair rows a b) u v → Other b a u v × Other a b u v
+  pair-gone ha hb u v e =
+      let once = takeFrom rows b a in
+      (take-gone rows b a ha u v (take-old once a b u v e), take-gone once a b hb u v e)
+
+  -- .. every other is kept ..
+  pub pair-kept : Tall rows → a < 64 → b < 64 → (u v : ℕ) → Step rows u v → Other b a u v → Other a b u v → Step (takePair rows a b) u v
+  pair-kept tall ha hb u v e f g = take-kept (takeFrom rows b a) a b (take-tall b a tall hb) hb u v (take-kept rows b a tall ha u v e f) g
 
   -- .. and a table that ran both ways still does.
   pub pair-turns : Tall rows → a < 64 → b < 64 → Symmetric (Step rows) → Symmetric (Step (takePair rows a b))
   pair-turns tall ha hb turn u v e =
-      let once = takeFrom rows b a in
-      let was = take-old once a b u v e in
-      let back = take-kept rows b a tall ha v u (turn u v (take-old rows b a u v was)) (λ p q. take-gone once a b hb u v e q p) in
-      take-kept once a b (take-tall b a tall hb) hb v u back (λ p q. take-gone rows b a ha u v was q p)
+      let gone = pair-gone ha hb u v e in
+      pair-kept tall ha hb v u (turn u v (pair-old u v e)) (λ p q. gone .1 q p) (λ p q. gone .0 q p)

@@ -12,13 +12,13 @@ use Rattle.rules.specs.Numbers.{conflicts}
 use Rattle.rules.specs.Meaning.{Symmetric, Sized, Pairs, Sound}
 use Rattle.rules.proofs.BookLaws.{unchosen}
 use Rattle.rules.proofs.ChangeLaws.{Held, held-holding, table-cases}
-use Rattle.demands.proofs.RowChanges.{take-old, pair-gone, pair-turns}
+use Rattle.demands.proofs.RowChanges.{take-old, pair-old, pair-turns}
 use Rattle.demands.proofs.Conflicts.{Exact}
 use Rattle.demands.proofs.UnopposedKinds.{unopposed}
 use Rattle.demands.proofs.Fewer.{Beside, sound-fewer}
 
 -- Where one of tables 0 to 6 is changed, nothing else is.
-table-beside : (d : Book) (n : ℕ) (f : ℕ → ℕ) → n < active → Beside d (setTable d n f)
+pub table-beside : (d : Book) (n : ℕ) (f : ℕ → ℕ) → n < active → Beside d (setTable d n f)
 table-beside d n f h = record {
   heads = refl;
   cells = refl;
@@ -27,7 +27,7 @@ table-beside d n f h = record {
 }
 
 -- The pair tables of a sound book.
-pairs-of : (d : Book) → Sound d → (n : ℕ) → n < 4 → Pairs (tasks d) (d .row n)
+pub pairs-of : (d : Book) → Sound d → (n : ℕ) → n < 4 → Pairs (tasks d) (d .row n)
 pairs-of d sound zero h = sound .bindings .sme
 pairs-of d sound (suc zero) h = sound .bindings .dme
 pairs-of d sound (suc (suc zero)) h = sound .bindings .rb
@@ -59,5 +59,5 @@ module _ (d : Book) (sound : Sound d) (a b c : ℕ) where
   unfolding change conflicts
   unrelate-exact sized ha hb n h =
       unopposed d (unrelate n) a b c refl
-      (table-fewer d sound n (takePair (d .row n) a b) (omega arith) (pair-gone (d .row n) a b)
+      (table-fewer d sound n (takePair (d .row n) a b) (omega arith) (pair-old (d .row n) a b)
       (λ l. pair-turns (d .row n) a b (sized .rows n) ha hb (pairs-of d sound n h .rule2)))

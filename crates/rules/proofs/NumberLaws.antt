@@ -71,6 +71,11 @@ fault-out d row a b c rest e =
     let z = given-out (not (fits d (row .c) c)) 4 _ _ (y .1) in
     (record { first = not-false _ (x .0); second = not-false _ (y .0); third = not-false _ (z .0) }, z .1)
 
+-- .. and back.
+pub fault-in : (d : Book) (row : Row) (a b c : ℕ) (rest : Said) → Fitting d row a b c → rest ≡ accepted → argumentFault d row a b c rest ≡ accepted
+unfolding argumentFault
+fault-in d row a b c rest f e = given-in _ _ _ (ap not (f .first)) (given-in _ _ _ (ap not (f .second)) (given-in _ _ _ (ap not (f .third)) e))
+
 -- None of the numbers 3 to 11 applies to a request.
 pub record Unrefused (d : Book) (q : Request) : Type 0 where
   pub fitting : Fitting d (rowOf (q .kind)) (q .a) (q .b) (q .c)
@@ -80,6 +85,11 @@ pub record Unrefused (d : Book) (q : Request) : Type 0 where
 pub refusal-out : (d : Book) (q : Request) → refusal d q ≡ accepted → Unrefused d q
 unfolding refusal
 refusal-out d q e = let y = fault-out d (rowOf (q .kind)) (q .a) (q .b) (q .c) _ e in record { fitting = y .0; state = y .1 }
+
+-- .. and back.
+pub refusal-in : (d : Book) (q : Request) → Unrefused d q → refusal d q ≡ accepted
+unfolding refusal
+refusal-in d q u = fault-in d (rowOf (q .kind)) (q .a) (q .b) (q .c) _ (u .fitting) (u .state)
 
 -- A request is accepted exactly where no word is bad, it is not refused and no conflict is given ..
 pub judge-out : (d : Book) (q : Request) → judge d q ≡ accepted

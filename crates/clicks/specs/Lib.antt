@@ -1,0 +1,2 @@
+pub mod Clicks
+pub mod Tests
