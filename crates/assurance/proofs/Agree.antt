@@ -1,7 +1,8 @@
 -- The rules look at the words of a book and at nothing past them: words that agree there have the same tables,
 -- so the same answer, the same audit, and words afterwards that agree again.
-use mathlib.Core.Path.{_≡_, ap}
+use mathlib.Core.Path.{_≡_, ap, _∙_}
 use mathlib.Core.Bool.{true, false, _&&_}
+use mathlib.Core.List.{List}
 use Prim.Native.Nat.{ℕ, _+_, _*_, _≤_, _<_}
 use native.Mathlib.Omega.{arith}
 use lib.Dec.{ltb}
@@ -12,7 +13,10 @@ use Rattle.rules.specs.Requests.{Request}
 use Rattle.rules.specs.Numbers.{Said, accepted, says, say, judge, given, blind, answer, wordsAfter}
 use Rattle.rules.specs.Audit.{audit, audited}
 use Rattle.rules.proofs.BookLaws.{book-ext}
+use Rattle.book.specs.Slice.{words, Full}
 use Rattle.book.proofs.StoreLaws.{only-same}
+use Rattle.desk.specs.Guarantee.{Stored}
+use Rattle.demands.specs.Demand3.{kept}
 
 -- the two agree on the words of a book
 abbrev pub Agree : (ℕ → ℕ) → (ℕ → ℕ) → Type 0
@@ -45,3 +49,19 @@ module _ {v w : ℕ → ℕ} (same : Agree v w) where
   unfolding wordsAfter
   agree-after accepted q i h = ap (λ (d : Book). write (blind d q) i) agree-read
   agree-after (says n r) q i h = same i h
+
+-- The slice is full, and its words are those of the book w.
+pub record Holds (l : List ℕ) (w : ℕ → ℕ) : Type 0 where
+  pub full : Full l
+  pub same : Agree (words l) w
+
+-- Then they are after a request.
+pub holds-after : {before after : List ℕ} {w : ℕ → ℕ} {q : Request} → Holds before w → Stored before after q → Holds after (kept w q)
+holds-after {before} {after} {w} {q} b o = record {
+  full = o .as-long ∙ b .full;
+  same = λ i h.
+      o .each-word i (omega (arith, b .full))
+      ∙ ap (λ (n : ℕ). wordsAfter (answer n (words before) q) (words before) q i) (b .full)
+      ∙ ap (λ (s : Said). wordsAfter s (words before) q i) (agree-answer (b .same) q)
+      ∙ agree-after (b .same) (answer bookWords w q) q i h;
+}

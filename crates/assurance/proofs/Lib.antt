@@ -1,2 +1,4 @@
 pub mod Agree
 pub mod ServedSound
+pub mod Zero
+pub mod AnyOrder

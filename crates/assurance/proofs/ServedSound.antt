@@ -3,13 +3,11 @@
 use mathlib.Core.Path.{_≡_, ap, _∙_}
 use mathlib.Core.List.{List}
 use Prim.Native.Nat.{ℕ}
-use native.Mathlib.Omega.{arith}
 use lib.ListN.{length}
-use Rattle.rules.specs.Book.{bookWords}
 use Rattle.rules.specs.Requests.{Request}
-use Rattle.rules.specs.Numbers.{Said, accepted, answer, wordsAfter}
+use Rattle.rules.specs.Numbers.{accepted}
 use Rattle.rules.specs.Audit.{audited}
-use Rattle.book.specs.Slice.{words, Full}
+use Rattle.book.specs.Slice.{words}
 use Rattle.answers.specs.declared.Finding.the-variants.{Sound}
 use Rattle.desk.specs.Guarantee.{Stored}
 use Rattle.audit.proofs.OneFinding.{found-injective}
@@ -17,36 +15,27 @@ use Rattle.towerplank.specs.Told.{fourWords}
 use Rattle.demands.specs.Demand3.{Reached, kept}
 use Rattle.demands.proofs.Demand3.{reached-passes}
 use Rattle.assurance.specs.Served.{Served, blank, then, ByEntry, ByC, ServedSound, ServedSoundC}
-use Rattle.assurance.proofs.Agree.{Agree, agree-answer, agree-audited, agree-after}
+use Rattle.assurance.proofs.Agree.{agree-audited, Holds, holds-after}
 
--- the slice is full, and its words are those of a book that requests have reached
+-- the slice has the words of a book that requests have reached
 record Like (l : List ℕ) : Type 0 where
   book : ℕ → ℕ
   reached : Reached book
-  full : Full l
-  same : Agree (words l) book
+  held : Holds l book
 
 like-after : {before after : List ℕ} {q : Request} → Like before → Stored before after q → Like after
-like-after {before} {after} {q} b o = record {
-  book = kept (b .book) q;
-  reached = Reached.then q (b .reached);
-  full = o .as-long ∙ b .full;
-  same = λ i h.
-      o .each-word i (omega (arith, b .full))
-      ∙ ap (λ (n : ℕ). wordsAfter (answer n (words before) q) (words before) q i) (b .full)
-      ∙ ap (λ (s : Said). wordsAfter s (words before) q i) (agree-answer (b .same) q)
-      ∙ agree-after (b .same) (answer bookWords (b .book) q) q i h;
-}
+like-after {q = q} b o = record { book = kept (b .book) q; reached = Reached.then q (b .reached); held = holds-after (b .held) o }
 
 -- Whoever serves and stores so leaves such a slice.
 served-like : {Serves : List ℕ → List ℕ → Type 0} → ((before after : List ℕ) → Serves before after → (q : Request) × Stored before after q)
     → {l : List ℕ} → Served Serves l → Like l
-served-like stores (blank full zeros) = record { book = λ i. 0; reached = Reached.blank; full = full; same = zeros }
+served-like stores (blank full zeros) = record { book = λ i. 0; reached = Reached.blank; held = record { full = full; same = zeros } }
 served-like stores (then {before = b} {after = a} s o) = like-after (served-like stores s) (stores b a o .1)
 
 -- Of such a slice the audit answers 0.
 like-audited : {l : List ℕ} → Like l → audited (length l) (words l) ≡ accepted
-like-audited {l} b = ap (λ (n : ℕ). audited n (words l)) (b .full) ∙ agree-audited (b .same) ∙ reached-passes (b .book) (b .reached)
+like-audited {l} b =
+    ap (λ (n : ℕ). audited n (words l)) (b .held .full) ∙ agree-audited (b .held .same) ∙ reached-passes (b .book) (b .reached)
 
 -- STATEMENT 1: the entries.
 pub served-sound : ServedSound
