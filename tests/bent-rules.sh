@@ -1,9 +1,10 @@
 # The rules bent, one at a time, as the source papers and hasty programs bend them. Of the bent rules it is proved that they do not meet
 # demand 3: at the book of one trial (crate trials) a request is accepted although the changed book breaks a rule, or refused although
 # it breaks none. Of changes that let a person act, or stop them, it is proved that they do not meet M-101: after the trial's request,
-# which is not of kind 11, person 0 does not act in what they acted in. Of rules that are only written another way it is proved that the
-# trial still holds. The copy has the definitions and the law that a trial is demand 3 at its book, and no other law: those would be
-# refused for the wording alone.
+# which is not of kind 11, person 0 does not act in what they acted in. Of rules by which the order of clicking matters, or by which what is
+# taken back leaves a trace, it is proved that they do not meet M-102, at the book and the list of one trial. Of rules that are only written
+# another way it is proved that the trial still holds. The copy has the definitions and the law that a trial is the statement at its book,
+# and no other law: those would be refused for the wording alone.
 # Sourced by .ci/run, or called alone.
 
 type holds >/dev/null 2>&1 || . "$(dirname "${BASH_SOURCE[0]}")/alone"
@@ -11,7 +12,7 @@ type holds >/dev/null 2>&1 || . "$(dirname "${BASH_SOURCE[0]}")/alone"
 bent=$(mktemp -d)
 bent_count=0
 
-# What is to be proved at the trial.
+# What is to be proved at the trial of demand 3 or of M-101 ..
 bent_claim() { # CLAIM FAMILY TRIAL
     cat <<END
 use mathlib.Core.Path.{sym}
@@ -43,23 +44,49 @@ END
     esac
 }
 
-# The definitions, with NEW for OLD in one file of the rules, and the claim.
+# .. and at that of M-102.
+bent_list_claim() { # CLAIM FAMILY TRIAL
+    cat <<END
+use lib.Dec.{T}
+use Rattle.rules.specs.Computed.{computed}
+use Rattle.rules.specs.Numbers.{wordsAfter}
+use Rattle.clicks.specs.Clicks.{OrderFree, Restored}
+use Rattle.trials.specs.ListTrial.{listFair, orderly, traceless}
+use Rattle.trials.specs.$2.{$3}
+use Rattle.trials.proofs.ListInstances.{order-free-tried, restored-tried}
+
+END
+    case $1 in
+    disordered) printf '%s\n' 'pub refuted : OrderFree → ⊥' 'unfolding computed wordsAfter listFair orderly' "refuted free = order-free-tried free $3" ;;
+    traced) printf '%s\n' 'pub refuted : Restored → ⊥' 'unfolding computed wordsAfter traceless' "refuted back = restored-tried back $3" ;;
+    ordered) printf '%s\n' "pub stands : T (orderly $3)" 'unfolding computed wordsAfter listFair orderly' 'stands = tt' ;;
+    untraced) printf '%s\n' "pub stands : T (traceless $3)" 'unfolding computed wordsAfter traceless' 'stands = tt' ;;
+    esac
+}
+
+# The definitions that the claim speaks of, with NEW for OLD in one file of the rules, and the claim.
 bent_copy() { # ROOM CLAIM FILE OLD NEW FAMILY TRIAL
-    for crate in sets chains rules demands trials; do
-        mkdir -p "$1/$crate/src"
+    case $2 in
+    disordered | traced | ordered | untraced) law=ListInstances claim=bent_list_claim crates='sets chains rules demands clicks trials' gone=Tried ;;
+    *) law=Instances claim=bent_claim crates='sets chains rules demands trials' gone='Tried ListTrial Lists' ;;
+    esac
+    for crate in $crates; do
+        mkdir -p "$1/$crate/src" "$1/$crate/proofs"
         : >"$1/$crate/src/lib.rt"
+        : >"$1/$crate/proofs/Lib.antt"
         cp -R "crates/$crate/specs" "$1/$crate/specs"
     done
-    mkdir "$1/sets/proofs" "$1/rules/proofs" "$1/trials/proofs"
-    cp crates/sets/proofs/Logic.antt "$1/sets/proofs/"
-    cp crates/rules/proofs/SaidLaws.antt crates/rules/proofs/SmallLaws.antt "$1/rules/proofs/"
-    cp crates/trials/proofs/Instances.antt "$1/trials/proofs/"
-    printf 'pub mod Logic\n' >"$1/sets/proofs/Lib.antt"
-    printf 'pub mod SaidLaws\npub mod SmallLaws\n' >"$1/rules/proofs/Lib.antt"
-    printf 'pub mod Instances\npub mod Claim\n' >"$1/trials/proofs/Lib.antt"
-    sed -i /Tried/d "$1/trials/specs/Lib.antt"
-    rm "$1/trials/specs/Tried.antt"
-    bent_claim "$2" "$6" "$7" >"$1/trials/proofs/Claim.antt"
+    for file in $gone; do
+        sed -i "/^pub mod $file\$/d" "$1/trials/specs/Lib.antt"
+        rm "$1/trials/specs/$file.antt"
+    done
+    for file in sets/Logic rules/SaidLaws rules/SmallLaws clicks/TestLaws "trials/$law"; do
+        [ -d "$1/${file%/*}" ] || continue
+        cp "crates/${file%/*}/proofs/${file#*/}.antt" "$1/${file%/*}/proofs/"
+        echo "pub mod ${file#*/}" >>"$1/${file%/*}/proofs/Lib.antt"
+    done
+    "$claim" "$2" "$6" "$7" >"$1/trials/proofs/Claim.antt"
+    echo 'pub mod Claim' >>"$1/trials/proofs/Lib.antt"
     text=$(cat "$1/rules/specs/$3")
     rest=${text/"$4"/}
     [ "$text" != "$rest" ] || { echo "crates/rules/specs/$3 does not have the text: $4"; return 1; }
@@ -70,8 +97,12 @@ bent_copy() { # ROOM CLAIM FILE OLD NEW FAMILY TRIAL
 # Says that the claim is proved, or what the prover says first.
 bent_verdict() { # ROOM CLAIM FILE OLD NEW FAMILY TRIAL
     bent_copy "$@" || return
-    rt check "$1/trials" --lib "sets=$1/sets/src/lib.rt" --lib "chains=$1/chains/src/lib.rt" \
-        --lib "rules=$1/rules/src/lib.rt" --lib "demands=$1/demands/src/lib.rt" >"$1/log" 2>&1
+    below=''
+    for crate in ${crates% trials}; do
+        below="$below --lib $crate=$1/$crate/src/lib.rt"
+    done
+    # shellcheck disable=SC2086
+    rt check "$1/trials" $below >"$1/log" 2>&1
     if grep -q '^logic=proved' "$1/log"; then echo proved; else grep -m 1 error "$1/log" | cut -c 1-400; fi
 }
 
@@ -87,6 +118,10 @@ bend() { bent_start refuted "$@"; }     # SENTENCE FILE OLD NEW FAMILY TRIAL
 switch() { bent_start switched "$@"; } # SENTENCE FILE OLD NEW FAMILY TRIAL
 stays() { bent_start stays "$@"; }     # SENTENCE FILE OLD NEW FAMILY TRIAL
 same() { bent_start stands "$@"; }     # SENTENCE FILE OLD NEW FAMILY TRIAL
+disorder() { bent_start disordered "$@"; } # SENTENCE FILE OLD NEW FAMILY TRIAL
+trace() { bent_start traced "$@"; }        # SENTENCE FILE OLD NEW FAMILY TRIAL
+order() { bent_start ordered "$@"; }       # SENTENCE FILE OLD NEW FAMILY TRIAL
+no_trace() { bent_start untraced "$@"; }   # SENTENCE FILE OLD NEW FAMILY TRIAL
 
 bent_shown() { # TOLD
     [ "$1" = proved ] || { echo "not proved: $1"; return 1; }
@@ -180,11 +215,11 @@ bend "rule 10 with one S in a role group" Audit.antt 'implies (bit bySubject v)'
 
 # ---- Who acts in what, which kind 11 alone says (M-101)
 
-switch "a role made active for a person who acts in none, as document 01 had it" Requests.antt \
-    'change d (assign n) a b c = setTable d n (addTo (d .row n) b a)' \
-    'change d (assign n) a b c =
+switched_on='change d (assign n) a b c =
         let added = setTable d n (addTo (d .row n) b a) in
-        elim (eqb n rolesOf && eqb (d .row active b) 0) [ true ↦ setActive added a b | false ↦ added ]' Staff freeRole
+        elim (eqb n rolesOf && eqb (d .row active b) 0) [ true ↦ setActive added a b | false ↦ added ]'
+switch "a role made active for a person who acts in none, as document 01 had it" Requests.antt \
+    'change d (assign n) a b c = setTable d n (addTo (d .row n) b a)' "$switched_on" Staff freeRole
 switch "nobody acting in a role that is taken back" Requests.antt \
     'change d (takeBack n) a b c = setTable d n (takeFrom (d .row n) b a)' \
     'change d (takeBack n) a b c =
@@ -194,6 +229,26 @@ switch "nobody acting in a role that is taken back" Requests.antt \
 
 stays "the bit of kinds 8 to 10 set twice" Requests.antt \
     'setTable d n (addTo (d .row n) b a)' 'setTable d n (addTo (addTo (d .row n) b a) b a)' Staff freeRole
+
+# ---- The order of clicking, and what is taken back (M-102)
+
+disorder "a role made active for a person who acts in none" Requests.antt \
+    'change d (assign n) a b c = setTable d n (addTo (d .row n) b a)' "$switched_on" Lists twoRoles
+disorder "a pair set in one direction only" Requests.antt \
+    'addPair rows a b = addTo (addTo rows a b) b a' 'addPair rows a b = addTo rows a b' Lists chainedPairs
+disorder "22 left out of kind 5, and 21 asked of kind 4 all the same" Numbers.antt \
+    'selfConstraint ∷ alreadySme ∷ oneSubjectGroup' 'selfConstraint ∷ oneSubjectGroup' Lists bothExclusions
+trace "a role made active for a person who acts in none" Requests.antt \
+    'change d (assign n) a b c = setTable d n (addTo (d .row n) b a)' "$switched_on" Lists twoRoles
+trace "one bit of a pair taken back and not the other" Requests.antt \
+    'takePair rows a b = takeFrom (takeFrom rows b a) a b' 'takePair rows a b = takeFrom rows a b' Lists twoPairs
+
+order "the bit of kinds 8 to 10 set twice" Requests.antt \
+    'setTable d n (addTo (d .row n) b a)' 'setTable d n (addTo (addTo (d .row n) b a) b a)' Lists twoRoles
+order "the two bits of a pair set in the other order" Requests.antt \
+    'addPair rows a b = addTo (addTo rows a b) b a' 'addPair rows a b = addTo (addTo rows b a) a b' Lists twoPairs
+no_trace "the two bits of a pair taken back in the other order" Requests.antt \
+    'takePair rows a b = takeFrom (takeFrom rows b a) a b' 'takePair rows a b = takeFrom (takeFrom rows a b) b a' Lists twoPairs
 
 # ---- Written another way
 
@@ -218,6 +273,10 @@ for n in $(seq "$bent_count"); do
     refuted) what="bent: $what. Demand 3 is refuted at the trial $trial" ;;
     switched) what="bent: $what. That only kind 11 changes an active word is refuted at the trial $trial" ;;
     stays) what="another wording: $what. The active word still stays at the trial $trial" ;;
+    disordered) what="bent: $what. That the order of clicking does not matter is refuted at the trial $trial" ;;
+    traced) what="bent: $what. That what is taken back leaves no trace is refuted at the trial $trial" ;;
+    ordered) what="another wording: $what. The order still does not matter at the trial $trial" ;;
+    untraced) what="another wording: $what. It still leaves no trace at the trial $trial" ;;
     stands) what="another wording: $what. The trial $trial still holds" ;;
     esac
     holds "$what" bent_shown "$(cat "$bent/$n.told")"

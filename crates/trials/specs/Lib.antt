@@ -4,4 +4,6 @@ pub mod PairsBack
 pub mod Staff
 pub mod Orders
 pub mod Guarded
+pub mod ListTrial
+pub mod Lists
 pub mod Tried

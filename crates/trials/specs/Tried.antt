@@ -2,12 +2,15 @@
 -- That each is exact is not computed again: proofs/Instances.antt has it from demand 3.
 use lib.Dec.{T}
 use Rattle.rules.specs.Computed.{computed}
+use Rattle.rules.specs.Numbers.{wordsAfter}
 use Rattle.trials.specs.Trial.{fair, allFair, noneFair}
 use Rattle.trials.specs.Pairs.{exclusions, bindings}
 use Rattle.trials.specs.PairsBack.{pairsBack}
 use Rattle.trials.specs.Staff.{assignments}
 use Rattle.trials.specs.Orders.{hands}
 use Rattle.trials.specs.Guarded.{guarded}
+use Rattle.trials.specs.ListTrial.{listFair, allListsFair}
+use Rattle.trials.specs.Lists.{lists}
 
 pub exclusions-fair : T (allFair exclusions)
 unfolding computed fair
@@ -32,3 +35,7 @@ hands-fair = tt
 pub guarded-unfair : T (noneFair guarded)
 unfolding computed fair
 guarded-unfair = tt
+
+pub lists-fair : T (allListsFair lists)
+unfolding computed wordsAfter listFair
+lists-fair = tt
