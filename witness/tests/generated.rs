@@ -7,7 +7,7 @@ use std::io::Cursor;
 
 use witness::audit::{audit, rule_holds};
 use witness::book::{lowest_bad_word, Book, WORDS};
-use witness::cases::{aimed_case, cases, AIMS};
+use witness::cases::{aimed_case, cases, taking_back, Ask, AIMS};
 use witness::count::Tally;
 use witness::request::{blind, refusal, request};
 use witness::stream::{answers, each_command, Command, Desk};
@@ -181,6 +181,91 @@ fn roles_are_met_in_every_way() {
     assert!(assigned.len() == 3 * 2 && assigned.values().all(|&times| times >= 5), "{assigned:?}");
     assert!(taken.len() == 3 && taken.values().all(|&times| times >= 5), "{taken:?}");
     assert!(stopped.len() == 2 * 2 && stopped.values().all(|&times| times >= 5), "{stopped:?}");
+}
+
+/// A book as it is laid in a stream, and the requests that are then asked of it.
+#[derive(Default)]
+struct Laid {
+    written: Vec<(usize, u64)>,
+    asks: Vec<Ask>,
+}
+
+impl Laid {
+    fn words(&self) -> Vec<u64> {
+        let mut words = vec![0; WORDS];
+        self.written.iter().for_each(|&(index, value)| words[index] = value);
+        words
+    }
+
+    /// The requests of kinds 4 to 10 that come first, and those after them.
+    fn list_and_rest(&self) -> (&[Ask], &[Ask]) {
+        let others = self.asks.iter().position(|ask| !(4..=10).contains(&ask.0));
+        self.asks.split_at(others.unwrap_or(self.asks.len()))
+    }
+}
+
+fn laid_books(text: Vec<u8>) -> Vec<Laid> {
+    let mut laid: Vec<Laid> = Vec::new();
+    each_command(Cursor::new(text), |command| {
+        match (command, laid.last_mut()) {
+            (Command::New(_), _) => laid.push(Laid::default()),
+            (Command::Word(index, value), Some(book)) => book.written.push((index, value)),
+            (Command::Request(kind, a, b, c), Some(book)) => book.asks.push((kind, a, b, c)),
+            _ => {}
+        }
+        Ok(())
+    })
+    .expect("the cases are commands");
+    laid
+}
+
+/// Whether two books are laid alike and asked the same of kinds 4 to 10, in different orders.
+fn are_two_foremen(one: &Laid, other: &Laid) -> bool {
+    let sorted = |list: &[Ask]| {
+        let mut list = list.to_vec();
+        list.sort();
+        list
+    };
+    let (list, again) = (one.list_and_rest().0, other.list_and_rest().0);
+    one.written == other.written && list != again && sorted(list) == sorted(again)
+}
+
+/// How many of the requests were accepted.
+fn accepted_of(words: &mut [u64], asks: &[Ask]) -> usize {
+    asks.iter().filter(|&&(kind, a, b, c)| request(words, kind, a, b, c).0 == 0).count()
+}
+
+/// One foreman's work: whether all of the list was accepted, and the words after it. Where it is taken back, the
+/// last comes first, just what was accepted goes, and the book is the one that was laid.
+fn work_of(laid: &Laid) -> (bool, Vec<u64>) {
+    let ((list, rest), mut words) = (laid.list_and_rest(), laid.words());
+    let accepted = accepted_of(&mut words, list);
+    let after = words.clone();
+    if !rest.is_empty() {
+        assert!(rest.iter().copied().eq(list.iter().rev().map(|&ask| taking_back(ask))));
+        assert_eq!(accepted_of(&mut words, rest), accepted);
+        assert!(words == laid.words());
+    }
+    (accepted == list.len(), after)
+}
+
+/// M-102: one list in two orders, on one sound book. Where all of it is accepted the words are equal in the end, where
+/// something is refused they differ. In some the list is taken back.
+#[test]
+fn two_foremen_are_among_the_cases() {
+    let (mut agreed, mut quarrelled, mut taken_back, mut while_open) = (0, 0, 0, 0);
+    for pair in laid_books(text_of_cases(12, 10_000)).windows(2).filter(|pair| are_two_foremen(&pair[0], &pair[1])) {
+        let first = pair[0].words();
+        assert_eq!(audit(&first), (0, 0, 0));
+        let ((all, one), (all_again, other)) = (work_of(&pair[0]), work_of(&pair[1]));
+        assert_eq!((all_again, one == other), (all, all));
+        agreed += u64::from(all);
+        quarrelled += u64::from(!all);
+        taken_back += pair.iter().filter(|laid| !laid.list_and_rest().1.is_empty()).count();
+        while_open += u64::from(first[516..=579].iter().any(|&tasks| tasks != 0));
+    }
+    assert!(agreed >= 15 && quarrelled >= 5, "{agreed} lists accepted in both orders, {quarrelled} not");
+    assert!(taken_back >= 10 && while_open >= 2, "{taken_back} taken back, {while_open} with an open order");
 }
 
 /// On the blank book each aimed situation gives just the number it aims at.

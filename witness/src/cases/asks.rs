@@ -39,6 +39,17 @@ impl Floor {
             orders: with_one_more((0..64).filter(|&p| book.is_open(p)).collect()),
         }
     }
+
+    /// A few of what a book has, so that requests meet often in a full book too, and one number of each sort besides.
+    pub fn few_of(chance: &mut Chance, book: &Book) -> Floor {
+        let mut floor = Floor::of(chance, book);
+        for list in [&mut floor.tasks, &mut floor.roles, &mut floor.subjects] {
+            while list.len() > 7 {
+                list.swap_remove(chance.below(list.len()));
+            }
+        }
+        floor
+    }
 }
 
 /// A request of the given kind whose arguments mostly fit; unused arguments may hold anything.

@@ -6,6 +6,7 @@ use super::broken::break_rule;
 use super::chance::Chance;
 use super::crowds::{crowded_gain, crowded_job, crowded_pair, new_hand};
 use super::damage::{damage, WAYS};
+use super::foremen::{small_cell, taking_back, two_orders};
 use super::scene::Scene;
 use super::sheet::Sheet;
 use super::situations::{lay, AIMS};
@@ -57,6 +58,7 @@ impl Maker {
         (0..2).for_each(|_| self.crowded(crowded_gain));
         (0..2).for_each(|_| self.crowded(crowded_job));
         self.crowded(new_hand);
+        [false, false, true].into_iter().for_each(|quarrelling| self.two_foremen(quarrelling));
         (1..=10).for_each(|rule| self.broken(rule));
         for step in 0..4 {
             self.damaged((4 * self.rounds + step) % WAYS);
@@ -200,6 +202,40 @@ impl Maker {
             self.sheet.ask(ask);
         }
         self.sheet.audit();
+    }
+
+    /// Two foremen with one list: the same sound book laid twice, and the list asked in two orders. Now and then all of
+    /// it is taken back again, the last first; what was refused is not there, so that the book is the old one again.
+    fn two_foremen(&mut self, quarrelling: bool) {
+        let ground = self.cell_to_set_up();
+        let (one, other) = two_orders(&mut self.chance, &ground, quarrelling);
+        for list in [one, other] {
+            self.sheet.lay(ground.words());
+            self.sheet.audit();
+            for &ask in &list {
+                self.sheet.ask(ask);
+            }
+            self.sheet.audit();
+            if self.chance.percent(30) {
+                for &ask in list.iter().rev() {
+                    self.sheet.ask(taking_back(ask));
+                }
+                self.sheet.audit();
+            }
+        }
+    }
+
+    /// A sound book to set something up in: a small new one or one of those kept. Mostly no order is open, since pairs
+    /// are added only then.
+    fn cell_to_set_up(&mut self) -> Book {
+        if self.sound.is_empty() || self.chance.percent(40) {
+            return small_cell(&mut self.chance);
+        }
+        let mut book = self.sound[self.chance.below(self.sound.len())].clone();
+        if self.chance.percent(40) {
+            without_orders(&mut book);
+        }
+        book
     }
 
     /// A sound book with one rule broken, sometimes a second one; then a few requests.

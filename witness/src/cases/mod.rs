@@ -1,4 +1,5 @@
-//! Cases to compare by: runs from the blank book, hand-made books, aimed situations, damage, extremes.
+//! Cases to compare by: runs from the blank book, hand-made books, aimed situations, one list in two orders, damage,
+//! extremes.
 
 use std::io::{Result, Write};
 
@@ -8,12 +9,15 @@ mod broken;
 mod chance;
 mod crowds;
 mod damage;
+mod foremen;
 mod maker;
 mod scene;
 mod sheet;
 mod situations;
 
-pub use asks::Ask;
+pub use asks::{likely, Ask, Floor};
+pub use chance::Chance;
+pub use foremen::{agreed_list, rearranged, taking_back};
 pub use maker::{aimed_case, Maker};
 pub use situations::AIMS;
 
