@@ -16,6 +16,7 @@ enum { SEQUENCER, OFFICE, BENCH }; /* roles, and the people who start with them 
 static uint64_t memory[TOWERPLANK_WORDS + 2];
 static uint64_t *const book = memory + 1;
 static uint64_t before[TOWERPLANK_WORDS];
+static uint64_t second[TOWERPLANK_WORDS]; /* the book of a second panel */
 static const uint64_t beside = 0x5ca1ab1e;
 
 /* The mask of one task. The one that is shifted has 64 bits: an int has too few for tasks above 30. */
@@ -44,20 +45,45 @@ static void audit(void)
     print_answer(answer, towerplank_finding_text(answer[0]));
 }
 
+/* What the cell is set up with: requests of kinds 4 to 10. All are accepted, so their order does not matter. */
+static const struct {
+    const char *what;
+    uint64_t kind, a, b;
+} list[] = {
+    {"nobody owns both waking and signing", TOWERPLANK_SME, WAKE, SIGN},
+    {"who cuts does not gauge in one order", TOWERPLANK_DME, CUT, GAUGE},
+    {"the sequencer hand wakes", TOWERPLANK_ASSIGN_TASK, WAKE, SEQUENCER},
+    {"the office signs", TOWERPLANK_ASSIGN_TASK, SIGN, OFFICE},
+    {"the bench cuts", TOWERPLANK_ASSIGN_TASK, CUT, BENCH},
+    {"the bench gauges", TOWERPLANK_ASSIGN_TASK, GAUGE, BENCH},
+    {"give a person their role", TOWERPLANK_ASSIGN_ROLE, SEQUENCER, SEQUENCER},
+    {"give a person their role", TOWERPLANK_ASSIGN_ROLE, OFFICE, OFFICE},
+    {"give a person their role", TOWERPLANK_ASSIGN_ROLE, BENCH, BENCH},
+};
+enum { LISTED = sizeof list / sizeof list[0] };
+
 static void define_the_cell(void)
 {
     int accepted = 1;
     for (uint64_t task = WAKE; task <= GAUGE; task++) accepted &= ask("define a task", TOWERPLANK_DEFINE_TASK, task, 0, 0);
     for (uint64_t role = SEQUENCER; role <= BENCH; role++) accepted &= ask("define a role", TOWERPLANK_DEFINE_ROLE, role, 0, 0);
     for (uint64_t who = SEQUENCER; who <= BENCH; who++) accepted &= ask("define a person", TOWERPLANK_DEFINE_SUBJECT, who, 0, 0);
-    accepted &= ask("nobody owns both waking and signing", TOWERPLANK_SME, WAKE, SIGN, 0);
-    accepted &= ask("who cuts does not gauge in one order", TOWERPLANK_DME, CUT, GAUGE, 0);
-    accepted &= ask("the sequencer hand wakes", TOWERPLANK_ASSIGN_TASK, WAKE, SEQUENCER, 0);
-    accepted &= ask("the office signs", TOWERPLANK_ASSIGN_TASK, SIGN, OFFICE, 0);
-    accepted &= ask("the bench cuts", TOWERPLANK_ASSIGN_TASK, CUT, BENCH, 0);
-    accepted &= ask("the bench gauges", TOWERPLANK_ASSIGN_TASK, GAUGE, BENCH, 0);
-    for (uint64_t who = SEQUENCER; who <= BENCH; who++) accepted &= ask("give a person their role", TOWERPLANK_ASSIGN_ROLE, who, who, 0);
+    for (int i = 0; i < TOWERPLANK_WORDS; i++) second[i] = book[i];
+    for (int i = 0; i < LISTED; i++) accepted &= ask(list[i].what, list[i].kind, list[i].a, list[i].b, 0);
     printf("the cell is %s\n", accepted ? "defined" : "not as it should be");
+}
+
+/* A second panel has the same list and works from its end: all of it is accepted there too, and the book is the same in every word. */
+static void define_it_again(void)
+{
+    int accepted = 0, differing = 0;
+    for (int i = LISTED - 1; i >= 0; i--) {
+        uint64_t answer[4];
+        towerplank_request(second, TOWERPLANK_WORDS, list[i].kind, list[i].a, list[i].b, 0, answer);
+        accepted += answer[0] == TOWERPLANK_ACCEPTED;
+    }
+    for (int i = 0; i < TOWERPLANK_WORDS; i++) differing += second[i] != book[i];
+    printf("the list from its end: %d of %d accepted, words that differ: %d\n", accepted, LISTED, differing);
 }
 
 /* Having a role is not acting in it: at the start of a day each person says which of their roles they act in. */
@@ -138,6 +164,7 @@ int main(void)
     memory[0] = memory[TOWERPLANK_WORDS + 1] = beside;
     printf("towerplank %s\n", TOWERPLANK_VERSION);
     define_the_cell();
+    define_it_again();
     start_the_day();
     run_an_order();
     be_hostile();
