@@ -15,7 +15,7 @@ use Rattle.rules.specs.Numbers.{accepted, answer}
 use Rattle.rules.specs.Audit.{audited}
 use Rattle.rules.proofs.NumberLaws.{given-out}
 use Rattle.demands.specs.Demand3 as demand
-use Rattle.clicks.specs.Clicks.{AllAccepted, final, takingBack}
+use Rattle.clicks.specs.Clicks.{AllAccepted, final}
 use Rattle.clicks.proofs.Clicks.{order-free, restored, back-accepted}
 use Rattle.book.specs.Slice.{words, Full}
 use Rattle.answers.specs.Answers.{said}
@@ -25,7 +25,8 @@ use Rattle.answers.proofs.AnswerLaws.{said-injective}
 use Rattle.desk.specs.Guarantee.{Stored, Answered}
 use Rattle.audit.specs.Guarantee.{Finds}
 use Rattle.towerplank.specs.Told.{fourWords, Told, ToldAudit}
-use Rattle.assurance.specs.AnyOrder.{Serving, Run, none, first, Entry, EntryAccepts, InC, zeros, AcceptsInC, OrderFreeBy, RestoredBy}
+use Rattle.assurance.specs.Served.{Serving, Entry, InC}
+use Rattle.assurance.specs.AnyOrder.{Run, none, first, EntryAccepts, zeros, AcceptsInC, OrderFreeBy, RestoredBy}
 use Rattle.assurance.specs.AnyOrder.{OrderFreeServed, RestoredServed, OrderFreeInC, RestoredInC}
 use Rattle.assurance.proofs.Agree.{Agree, Holds, holds-after, agree-answer}
 use Rattle.assurance.proofs.Zero.{zero-accepts, zero-passes}
@@ -89,14 +90,14 @@ module _ {Passed : List ℕ → Type 0} {Serves Accepts : Serving} (door : Door 
 
   -- and what is taken back at once leaves no trace.
   by-restored : RestoredBy Passed Serves Accepts
-  by-restored before between after q fit passed adds o o′ =
+  by-restored before between after q p fit passed adds takes o o′ =
       let w = words before in
       let held = itself passed in
       let e = sym (answered held q) ∙ door .told o in
       let gained = holds-after held (door .keeps o) in
-      let back = back-accepted w fit (passing passed) q adds e in (
-        door .accepts o′ (answered gained (takingBack q) ∙ back),
-        one-slice (holds-after gained (door .stores o′)) held (restored w fit (passing passed) q adds e back),
+      let back = back-accepted w fit (passing passed) q p adds takes e in (
+        door .accepts o′ (answered gained p ∙ back),
+        one-slice (holds-after gained (door .stores o′)) held (restored w fit (passing passed) q p adds takes e back),
       )
 
 -- The entries: an answer is known by what it says.

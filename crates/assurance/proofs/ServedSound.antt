@@ -42,11 +42,11 @@ pub served-sound : ServedSound
 served-sound l s f e = found-injective f Sound (e ∙ like-audited (served-like stores s))
   where
     stores : (before after : List ℕ) → ByEntry before after → (q : Request) × Stored before after q
-    stores before after (q, r, o) = (q, o .stored)
+    stores before after (q, (r, o)) = (q, o .stored)
 
 -- STATEMENT 2: the C functions.
 pub served-sound-c : ServedSoundC
 served-sound-c l s four e = e ∙ ap fourWords (like-audited (served-like stores s))
   where
     stores : (before after : List ℕ) → ByC before after → (q : Request) × Stored before after q
-    stores before after (q, told, o) = (q, o .stored)
+    stores before after (q, (four, o)) = (q, o .stored)

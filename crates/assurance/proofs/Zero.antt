@@ -1,11 +1,12 @@
 -- No answer but 0 has the number 0. Every refusal, every conflict and every finding is given with a number of its own, and what is given
 -- is one of these or the rest; so it goes along the definitions, list by list.
-use mathlib.Core.Path.{_≡_, refl}
+use mathlib.Core.Path.{_≡_, refl, sym, ap, _∙_}
 use mathlib.Core.Bool.{Bool, true, false, not}
 use mathlib.Core.List.{List, [], _∷_}
 use Prim.Native.Nat.{ℕ, _+_, _<_}
 use native.Mathlib.Omega.{arith}
 use lib.Dec.{ltb, eqb}
+use lib.ListN.{length, getD}
 use Rattle.sets.specs.Search.{lowest, paired}
 use Rattle.rules.specs.Book.{Book, bookWords, read, firstBad}
 use Rattle.rules.specs.Requests.{Request, Deed, nothing, define, relate, assign, activate, openOrder, allocate, closeOrder, takeBack, unrelate}
@@ -16,7 +17,9 @@ use Rattle.rules.specs.Numbers.{smeBetweenGroups, dmeBetweenGroups, selfInherit
 use Rattle.rules.specs.Numbers.{heldSme, heldDme, unlisted, smeConflicts, dmeConflicts, rbConflicts, sbConflicts, taskConflicts, juniorConflicts}
 use Rattle.rules.specs.Numbers.{roleConflicts, heldConflicts, byTable, pairConflicts, assignConflicts, conflicts, firstOf, conflict, orElse, judge, answer}
 use Rattle.rules.specs.Audit.{audit, audited, firstBroken, ruleCount}
-use Rattle.assurance.specs.Zero.{ZeroAccepts, ZeroPasses}
+use Rattle.book.specs.Slice.{words}
+use Rattle.towerplank.specs.Told.{fourWords}
+use Rattle.assurance.specs.Zero.{ZeroAccepts, ZeroPasses, ZeroInC, ZeroAuditInC}
 
 -- an answer that is accepted, or has a number above 0
 abbrev Numbered : Said → Type 0
@@ -184,10 +187,22 @@ numbered-zero : (s : Said) → Numbered s → numberOf s ≡ 0 → s ≡ accepte
 numbered-zero accepted x e = refl
 numbered-zero (says n r) x e = absurd (omega arith)
 
--- STATEMENT 1: of a request.
+-- STATEMENTS 1 and 2: of the answers.
 pub zero-accepts : ZeroAccepts
 zero-accepts n w q = numbered-zero (answer n w q) (answer-numbered n w q)
 
--- STATEMENT 2: of the audit.
 pub zero-passes : ZeroPasses
 zero-passes n w = numbered-zero (audited n w) (audit-numbered n w)
+
+-- the first of the four words
+abbrev first : List ℕ → ℕ
+first four = getD four 0 1
+
+-- STATEMENTS 3 and 4: of the four words that are told.
+pub zero-in-c : ZeroInC
+zero-in-c before after q four o e =
+    let said = zero-accepts (length before) (words before) q (sym (ap first (o .told)) ∙ e) in
+    record { told = sym (ap fourWords said); stored = o .stored }
+
+pub zero-audit-in-c : ZeroAuditInC
+zero-audit-in-c l four o e = sym (ap fourWords (zero-passes (length l) (words l) (sym (ap first o) ∙ e)))

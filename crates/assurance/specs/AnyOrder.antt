@@ -6,18 +6,14 @@ use mathlib.Core.List.{List, [], _∷_, Perm}
 use Prim.Native.Nat.{ℕ}
 use Rattle.rules.specs.Requests.{Request}
 use Rattle.rules.specs.Meaning.{Fits}
-use Rattle.clicks.specs.Clicks.{Adding, AllAdding, takingBack}
+use Rattle.clicks.specs.Clicks.{Adding, AllAdding, TakesBack}
 use Rattle.book.specs.Slice.{words}
-use Rattle.answers.specs.declared.Answer.{Answer}
 use Rattle.answers.specs.declared.Answer.the-variants.{Accepted}
 use Rattle.answers.specs.declared.Finding.the-variants.{Sound}
 use Rattle.desk.specs.Guarantee.{Answered}
 use Rattle.audit.specs.Guarantee.{Finds}
 use Rattle.towerplank.specs.Told.{Told, ToldAudit}
-
--- A request served: the slice was the one and is the other.
-abbrev pub Serving : Type 1
-Serving = Request → List ℕ → List ℕ → Type 0
+use Rattle.assurance.specs.Served.{Serving, Entry, InC}
 
 -- The requests of a list, served one after the other.
 pub data Run (Serves : Serving) : List Request → List ℕ → List ℕ → Type 0 where
@@ -25,18 +21,11 @@ pub data Run (Serves : Serving) : List Request → List ℕ → List ℕ → Typ
   first : {q : Request} {qs : List Request} {before between after : List ℕ}
       → Serves q before between → Run Serves qs between after → Run Serves (q ∷ qs) before after
 
--- The request entry serves, and answers whatever it answers ..
-abbrev pub Entry : Serving
-Entry q before after = (r : Answer) × Answered before after q r
-
--- .. or accepts;
+-- The request entry accepts,
 abbrev pub EntryAccepts : Serving
 EntryAccepts q before after = Answered before after q Accepted
 
--- and so the C function, which accepts with four zeros.
-abbrev pub InC : Serving
-InC q before after = (four : List ℕ) × Told before after q four
-
+-- and the C function accepts: it tells four zeros.
 abbrev pub zeros : List ℕ
 zeros = 0 ∷ 0 ∷ 0 ∷ 0 ∷ []
 
@@ -50,12 +39,12 @@ OrderFreeBy Passed Serves Accepts =
     (one two one′ two′ : List ℕ) (qs ps : List Request) → one ≡ two → Fits (words one) → Passed one → AllAdding qs → Perm qs ps
     → Run Accepts qs one one′ → Run Serves ps two two′ → Run Accepts ps two two′ × (two′ ≡ one′)
 
--- A request of kinds 4 to 10 is accepted on such a slice, and at once the one is put that takes it back: it is accepted too, and the slice is
+-- A request of kinds 4 to 10 is accepted on such a slice, and at once one is put that takes it back: that is accepted too, and the slice is
 -- what it was.
 abbrev pub RestoredBy : (List ℕ → Type 0) → Serving → Serving → Type 0
 RestoredBy Passed Serves Accepts =
-    (before between after : List ℕ) (q : Request) → Fits (words before) → Passed before → Adding q
-    → Accepts q before between → Serves (takingBack q) between after → Accepts (takingBack q) between after × (after ≡ before)
+    (before between after : List ℕ) (q p : Request) → Fits (words before) → Passed before → Adding q → TakesBack q p
+    → Accepts q before between → Serves p between after → Accepts p between after × (after ≡ before)
 
 -- 1. and 2. Of the entries; the audit entry has found the slice sound.
 abbrev pub OrderFreeServed : Type 0

@@ -1,3 +1,3 @@
 pub mod Served
-pub mod Zero
 pub mod AnyOrder
+pub mod Zero

@@ -18,13 +18,25 @@ pub data Served (Serves : List ℕ → List ℕ → Type 0) : List ℕ → Type 
   blank : {l : List ℕ} → Full l → ((i : ℕ) → i < bookWords → words l i ≡ 0) → Served Serves l
   then : {before after : List ℕ} → Served Serves before → Serves before after → Served Serves after
 
+-- A request served: the slice was the one and is the other.
+abbrev pub Serving : Type 1
+Serving = Request → List ℕ → List ℕ → Type 0
+
+-- By the request entry, whatever it answers ..
+abbrev pub Entry : Serving
+Entry q before after = (r : Answer) × Answered before after q r
+
+-- .. or by the C function.
+abbrev pub InC : Serving
+InC q before after = (four : List ℕ) × Told before after q four
+
 -- The request entry served it, whatever was asked and answered ..
 abbrev pub ByEntry : List ℕ → List ℕ → Type 0
-ByEntry before after = (q : Request) × (r : Answer) × Answered before after q r
+ByEntry before after = (q : Request) × Entry q before after
 
 -- .. or the C function did.
 abbrev pub ByC : List ℕ → List ℕ → Type 0
-ByC before after = (q : Request) × (four : List ℕ) × Told before after q four
+ByC before after = (q : Request) × InC q before after
 
 -- 1. The audit entry finds every slice that the request entry has served sound: no other finding meets its guarantee.
 abbrev pub ServedSound : Type 0

@@ -1,7 +1,7 @@
 -- Kinds 4 to 10 add what `Joins` says, whatever the book, and the kinds that take back take just that away. Whether such a request is refused
 -- depends on what it would add, and on what books beside each other have in common. After this file nothing goes by kinds any more: what is
 -- said of one request, or of two, is said of what joins.
-use mathlib.Core.Path.{_≡_, refl, ap, _∙_, subst, subst₂}
+use mathlib.Core.Path.{_≡_, refl, sym, ap, _∙_, subst, subst₂}
 use mathlib.Core.Logic.{_⊎_, inl, inr}
 use mathlib.Core.Bool.{_&&_, not}
 use Prim.Native.Nat.{ℕ, _+_, _-_, _≤_, _<_}
@@ -21,8 +21,8 @@ use Rattle.rules.proofs.NumberLaws.{given-out, given-in, lowest-out, lowest-in,
 use Rattle.rules.proofs.ChangeLaws.{Held, a-task, a-junior, a-role, held-holding, fits-lt}
 use Rattle.demands.proofs.RowChanges.{add-gets, pair-adds, take-old, take-gone, take-kept, pair-old, pair-gone, pair-kept}
 use Rattle.demands.proofs.Fewer.{Beside}
-use Rattle.clicks.specs.Clicks.{Adding, kindBack, takingBack, addsTo, JoinsRow, Joins}
-use Rattle.clicks.proofs.Growth.{Grown, Shrunk, Turns, table-grown, table-shrunk}
+use Rattle.clicks.specs.Clicks.{Adding, kindBack, NamesSame, TakesBack, addsTo, JoinsRow, Joins}
+use Rattle.clicks.proofs.Growth.{Grown, Shrunk, grown-as, shrunk-as, Turns, table-grown, table-shrunk}
 
 -- A kind of 4 to 10, by its row of the fixed table and the row of the kind that takes back: a pair, or what somebody holds.
 data Adder (k : ℕ) : Row → Row → Type 0 where
@@ -162,29 +162,57 @@ module _ (q : Request) where
       given-in (bit (d′ .row t a) b) _ _ (refute _ (none t a b (refl, inr (l, refl, refl)))) (still-shut s (given-out (bit (d .row t a) b) 5 _ _ e .1))
   refit (holds held n) {d} {d′} s e none = given-in (bit (d′ .row t b) a) _ _ (refute _ (none t b a (refl, inl (refl, refl)))) refl
 
-  -- .. and once it is made, taking it back is not refused: what is asked for is there, and no order is open that was not.
-  refit-back : {row back : Row} → Adder (q .kind) row back → {d d′ : Book} → Grown d d′ (Joins q) → stateRefusal d (row .deed) a b c ≡ accepted
+  -- Where a pair is not refused, no order is open.
+  shut : {row back : Row} → Adder (q .kind) row back → (d : Book) → stateRefusal d (row .deed) a b c ≡ accepted → q .kind < 8 → openRefusal d ≡ accepted
+  unfolding stateRefusal
+  shut (pairs h l) d e k = given-out (bit (d .row t a) b) 5 _ _ e .1
+  shut (holds held n) d e k = absurd (n k)
+
+  -- So once it is made, taking it back is not refused: what is asked for is there, and for a pair no order is open.
+  refit-back : {row back : Row} → Adder (q .kind) row back → {d d′ : Book} → Grown d d′ (Joins q) → (q .kind < 8 → openRefusal d ≡ accepted)
       → stateRefusal d′ (back .deed) a b c ≡ accepted
   unfolding stateRefusal
-  refit-back (pairs h l) {d} g e =
-      given-in _ _ _ (ap not (g .new t a b (refl, inr (l, refl, refl)))) (still-shut (g .beside) (given-out (bit (d .row t a) b) 5 _ _ e .1))
-  refit-back (holds held n) g e = given-in _ _ _ (ap not (g .new t b a (refl, inl (refl, refl)))) refl
+  refit-back (pairs h l) g closed = given-in _ _ _ (ap not (g .new t a b (refl, inr (l, refl, refl)))) (still-shut (g .beside) (closed l))
+  refit-back (holds held n) g closed = given-in _ _ _ (ap not (g .new t b a (refl, inl (refl, refl)))) refl
 
-  -- Both kinds ask the same of their arguments: what is fit for one is fit for the other,
-  same-needs : {row back : Row} → Adder (q .kind) row back → {d : Book} → Fitting d row a b c → Fitting d back a b c
-  same-needs (pairs h l) f = record { first = f .first; second = f .second; third = f .third }
-  same-needs (holds held n) f = record { first = f .first; second = f .second; third = f .third }
+  -- What is fit for it is fit for one that takes it back,
+  back-fits : {row back : Row} → Adder (q .kind) row back → {d : Book} → Fitting d row a b c → (p : Request) → NamesSame q p
+      → Fitting d back (p .a) (p .b) (p .c)
+  unfolding fits
+  back-fits (pairs h l) {d} f p (inl (x, y)) = record { first = ap (fits d aTask) x ∙ f .first; second = ap (fits d aTask) y ∙ f .second; third = refl }
+  back-fits (pairs h l) {d} f p (inr (m, x, y)) = record { first = ap (fits d aTask) x ∙ f .second; second = ap (fits d aTask) y ∙ f .first; third = refl }
+  back-fits (holds {x = s} {y = r} held n) {d} f p (inl (x, y)) =
+      record { first = ap (fits d s) x ∙ f .first; second = ap (fits d r) y ∙ f .second; third = refl }
+  back-fits (holds held n) f p (inr (m, x, y)) = absurd (n m)
 
-  -- and the first two are numbers below 64.
-  numbers : {row back : Row} → Adder (q .kind) row back → {d : Book} → Fitting d row a b c → (a < 64) × (b < 64)
+  -- and two numbers below 64.
+  numbers : {row back : Row} → Adder (q .kind) row back → {d : Book} → Fitting d back a b c → (a < 64) × (b < 64)
   numbers (pairs h l) {d} f = (fits-lt d aTask a refl (f .first), fits-lt d aTask b refl (f .second))
   numbers (holds {x = x} {y = y} held n) {d} f =
       let k = held-holding held in
       (fits-lt d x a (k .thing) (f .first), fits-lt d y b (k .holder) (f .second))
 
+-- the numbers of p, for the kind of q
+abbrev twin : Request → Request → Request
+twin q p = record { kind = q .kind; a = p .a; b = p .b; c = p .c }
+
+names-turn : (q p : Request) → NamesSame q p → NamesSame (twin q p) q
+names-turn q p (inl (x, y)) = inl (sym x, sym y)
+names-turn q p (inr (l, x, y)) = inr (l, sym y, sym x)
+
+-- What joins by the numbers of q joins by those of p.
+joins-twin : (q p : Request) → NamesSame q p → (n u v : ℕ) → Joins q n u v → Joins (twin q p) n u v
+joins-twin q p names n u v (k, new) = (k, go names new)
+  where
+    go : NamesSame q p → JoinsRow q u v → JoinsRow (twin q p) u v
+    go (inl (x, y)) (inl (i, j)) = inl (i ∙ sym y, j ∙ sym x)
+    go (inl (x, y)) (inr (l, i, j)) = inr (l, i ∙ sym x, j ∙ sym y)
+    go (inr (m, x, y)) (inl (i, j)) = inr (m, i ∙ sym x, j ∙ sym y)
+    go (inr (m, x, y)) (inr (l, i, j)) = inl (i ∙ sym y, j ∙ sym x)
+
 -- A request of kinds 4 to 10:
 module _ (q : Request) (adding : Adding q) where
-  adds : Adder (q .kind) (rowOf (q .kind)) (rowOf (takingBack q .kind))
+  adds : Adder (q .kind) (rowOf (q .kind)) (rowOf (kindBack (q .kind)))
   adds = adder (q .kind) (adding .0) (adding .1)
 
   -- the changed book has grown by what joins;
@@ -207,15 +235,33 @@ module _ (q : Request) (adding : Adding q) where
       let u = refusal-out d q e in
       refusal-in d′ q (record { fitting = fitting-beside s (u .fitting); state = refit q adds s (u .state) none })
 
-  -- The request that takes it back, on the changed book: it is not refused, and what joined is lost.
-  module _ (d : Book) (e : refusal d q ≡ accepted) where
-    pub back-unrefused : refusal (blind d q) (takingBack q) ≡ accepted
-    back-unrefused =
-        let u = refusal-out d q e in
-        let g = blind-grown d in
-        refusal-in (blind d q) (takingBack q)
-        (record { fitting = same-needs q adds (fitting-beside (g .beside) (u .fitting)); state = refit-back q adds g (u .state) })
+  -- A request that takes it back, on the changed book: it is not refused, and what joined is lost.
+  module _ (p : Request) (takes : TakesBack q p) (d : Book) (e : refusal d q ≡ accepted) where
+    -- what would join by the numbers of p is what joins by q
+    to : (n u v : ℕ) → Joins q n u v → Joins (twin q p) n u v
+    to n u v = joins-twin q p (takes .1) n u v
 
-    pub back-shrunk : Sized (blind d q) → Shrunk (blind d q) (blind (blind d q) (takingBack q)) (Joins q)
+    from : (n u v : ℕ) → Joins (twin q p) n u v → Joins q n u v
+    from n u v = joins-twin (twin q p) q (names-turn q p (takes .1)) n u v
+
+    -- the row of its kind
+    takes-row : rowOf (kindBack (q .kind)) ≡ rowOf (p .kind)
+    takes-row = ap rowOf (sym (takes .0))
+
+    back-fitting : Fitting (blind d q) (rowOf (kindBack (q .kind))) (p .a) (p .b) (p .c)
+    back-fitting = back-fits q adds (fitting-beside (blind-grown d .beside) (refusal-out d q e .fitting)) p (takes .1)
+
+    pub back-unrefused : refusal (blind d q) p ≡ accepted
+    back-unrefused =
+        let state = refit-back (twin q p) adds (grown-as to from (blind-grown d)) (shut q adds d (refusal-out d q e .state)) in
+        refusal-in (blind d q) p (record {
+          fitting = subst (λ (row : Row). Fitting (blind d q) row (p .a) (p .b) (p .c)) takes-row back-fitting;
+          state = subst (λ (row : Row). stateRefusal (blind d q) (row .deed) (p .a) (p .b) (p .c) ≡ accepted) takes-row state;
+        })
+
+    pub back-shrunk : Sized (blind d q) → Shrunk (blind d q) (blind (blind d q) p) (Joins q)
     unfolding blind
-    back-shrunk sized = let n = numbers q adds (refusal-out d q e .fitting) in shrunk q adds (blind d q) sized (n .0) (n .1)
+    back-shrunk sized =
+        let n = numbers (twin q p) adds back-fitting in
+        subst (λ (row : Row). Shrunk (blind d q) (change (blind d q) (row .deed) (p .a) (p .b) (p .c)) (Joins q)) takes-row
+        (shrunk-as from to (shrunk (twin q p) adds (blind d q) sized (n .0) (n .1)))

@@ -115,24 +115,24 @@ order-free w fit passes qs ps adding run r =
     (accepts-out w ps (x .0), x .1)
 
 -- What is added and at once taken back, on words.
-module _ (w : ℕ → ℕ) (good : Good w) (q : Request) (adds : click.Adding q) (e : Accepted w q) where
-  back-accepts : Accepted (kept w q) (click.takingBack q)
+module _ (w : ℕ → ℕ) (good : Good w) (q p : Request) (adds : click.Adding q) (takes : click.TakesBack q p) (e : Accepted w q) where
+  back-accepts : Accepted (kept w q) p
   back-accepts =
-      accepted-in (kept w q) (blind (read w) q) (click.takingBack q) (kept-book w q e (good .sized))
-      (undone-accepted (read w) (good .sized) (good-sound good) q adds (told w q e))
+      accepted-in (kept w q) (blind (read w) q) p (kept-book w q e (good .sized))
+      (undone-accepted (read w) (good .sized) (good-sound good) q p adds takes (told w q e))
 
-  back-words : Accepted (kept w q) (click.takingBack q) → (i : ℕ) → i < bookWords → kept (kept w q) (click.takingBack q) i ≡ w i
+  back-words : Accepted (kept w q) p → (i : ℕ) → i < bookWords → kept (kept w q) p i ≡ w i
   back-words f i l =
       ap (λ (v : ℕ → ℕ). v i)
-      (kept-words (kept w q) (click.takingBack q) f
-      ∙ ap (λ (x : Book). write (blind x (click.takingBack q))) (kept-book w q e (good .sized))
-      ∙ ap write (undone-book (read w) (good .sized) (good-sound good) q adds (told w q e)))
+      (kept-words (kept w q) p f
+      ∙ ap (λ (x : Book). write (blind x p)) (kept-book w q e (good .sized))
+      ∙ ap write (undone-book (read w) (good .sized) (good-sound good) q p adds takes (told w q e)))
       ∙ write-read w i l
 
 -- STATEMENT 2: taken back at once, it leaves every word as it was.
 pub restored : click.Restored
-restored w fit passes q adds e = back-words w (record { sized = read-sized w fit; passes = passes }) q adds e
+restored w fit passes = back-words w (record { sized = read-sized w fit; passes = passes })
 
 -- STATEMENT 3: taking it back at once is accepted.
 pub back-accepted : click.BackAccepted
-back-accepted w fit passes q adds e = back-accepts w (record { sized = read-sized w fit; passes = passes }) q adds e
+back-accepted w fit passes = back-accepts w (record { sized = read-sized w fit; passes = passes })

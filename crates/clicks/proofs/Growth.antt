@@ -14,11 +14,11 @@ use Rattle.rules.proofs.ChangeLaws.{table-cases}
 use Rattle.demands.proofs.Fewer.{Beside}
 use Rattle.demands.proofs.TakenBack.{table-beside}
 
--- What lies beside a book, it lies beside too ..
+-- Of two books beside each other either may be named first ..
 pub beside-turn : {d e : Book} → Beside d e → Beside e d
 beside-turn s = record { heads = sym (s .heads); cells = sym (s .cells); actives = sym (s .actives); opened = sym (s .opened) }
 
--- .. and beside what lies beside that.
+-- .. and what lies beside the second lies beside the first.
 pub beside-on : {d e f : Book} → Beside d e → Beside e f → Beside d f
 beside-on s t = record {
   heads = t .heads ∙ s .heads;
@@ -40,6 +40,23 @@ pub record Shrunk (d d′ : Book) (Lost : ℕ → Relation) : Type 0 where
   pub old : (n u v : ℕ) → Step (d′ .row n) u v → Step (d .row n) u v
   pub gone : (n u v : ℕ) → Step (d′ .row n) u v → Lost n u v → ⊥
   pub left : (n u v : ℕ) → Step (d .row n) u v → (Lost n u v → ⊥) → Step (d′ .row n) u v
+
+-- The same of steps that are only named otherwise.
+module _ {d d′ : Book} {X Y : ℕ → Relation} (to : (n u v : ℕ) → X n u v → Y n u v) (from : (n u v : ℕ) → Y n u v → X n u v) where
+  pub grown-as : Grown d d′ X → Grown d d′ Y
+  grown-as g = record { beside = g .beside; out = λ n u v e. either (g .out n u v e); old = g .old; new = λ n u v y. g .new n u v (from n u v y) }
+    where
+      either : {n u v : ℕ} → Step (d .row n) u v ⊎ X n u v → Step (d .row n) u v ⊎ Y n u v
+      either (inl e) = inl e
+      either {n} {u} {v} (inr x) = inr (to n u v x)
+
+  pub shrunk-as : Shrunk d d′ X → Shrunk d d′ Y
+  shrunk-as s = record {
+    beside = s .beside;
+    old = s .old;
+    gone = λ n u v e y. s .gone n u v e (from n u v y);
+    left = λ n u v e k. s .left n u v e (λ x. k (to n u v x));
+  }
 
 -- The pair tables run both ways.
 abbrev pub Turns : (ℕ → Relation) → Type 0

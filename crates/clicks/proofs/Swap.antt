@@ -30,16 +30,15 @@ accepted-sound d sized sound q e =
 pub sound-turns : (d : Book) → Sound d → Turns (λ n. Step (d .row n))
 sound-turns d sound n h = pairs-of d sound n h .rule2
 
--- A sound book, and an accepted request: the book after it has its size and is sound.
-module _ (d : Book) (sized : Sized d) (sound : Sound d) (q : Request) (e : judge d q ≡ accepted) where
-  pub unrefused : refusal d q ≡ accepted
-  unrefused = judge-out d q e .1
+-- An accepted request is not refused, the book after it has its size, and after a sound book it is sound.
+pub unrefused : (d : Book) (q : Request) → judge d q ≡ accepted → refusal d q ≡ accepted
+unrefused d q e = judge-out d q e .1
 
-  pub sized-after : Sized (blind d q)
-  sized-after = blind-sized q sized unrefused
+pub sized-after : (d : Book) → Sized d → (q : Request) → judge d q ≡ accepted → Sized (blind d q)
+sized-after d sized q e = blind-sized q sized (unrefused d q e)
 
-  pub sound-after : Sound (blind d q)
-  sound-after = accepted-sound d sized sound q unrefused .0 e
+pub sound-after : (d : Book) → Sized d → Sound d → (q : Request) → judge d q ≡ accepted → Sound (blind d q)
+sound-after d sized sound q e = accepted-sound d sized sound q (unrefused d q e) .0 e
 
 -- What is shown of p and then q, where q and then p were accepted.
 pub record Swapped (d : Book) (q p : Request) : Type 0 where
@@ -64,25 +63,25 @@ module _ (d : Book) (sized : Sized d) (sound : Sound d) (q p : Request) (addsQ :
 
   -- dq and dqp are sound books.
   sized-q : Sized dq
-  sized-q = sized-after d sized sound q e
+  sized-q = sized-after d sized q e
 
   sound-q : Sound dq
   sound-q = sound-after d sized sound q e
 
   sized-qp : Sized dqp
-  sized-qp = sized-after dq sized-q sound-q p f
+  sized-qp = sized-after dq sized-q p f
 
   sound-qp : Sound dqp
   sound-qp = sound-after dq sized-q sound-q p f
 
   -- What joins by p is not in dq, where p is not refused. So it is not in d either, and p is not refused there.
   new-p : (n u v : ℕ) → Joins p n u v → Step (dq .row n) u v → ⊥
-  new-p = not-there p addsP dq (sound-turns dq sound-q) (unrefused dq sized-q sound-q p f)
+  new-p = not-there p addsP dq (sound-turns dq sound-q) (unrefused dq p f)
 
   unrefused-p : refusal d p ≡ accepted
   unrefused-p =
       let g = blind-grown q addsQ d in
-      unrefused-beside p addsP (beside-turn (g .beside)) (unrefused dq sized-q sound-q p f) (λ n u v x i. new-p n u v x (g .old n u v i))
+      unrefused-beside p addsP (beside-turn (g .beside)) (unrefused dq p f) (λ n u v x i. new-p n u v x (g .old n u v i))
 
   sized-p : Sized dp
   sized-p = blind-sized p sized unrefused-p
@@ -109,10 +108,10 @@ module _ (d : Book) (sized : Sized d) (sound : Sound d) (q p : Request) (addsQ :
   unrefused-pq : refusal dp q ≡ accepted
   unrefused-pq =
       let g = blind-grown p addsP d in
-      unrefused-beside q addsQ (g .beside) (unrefused d sized sound q e) (λ n u v x i. apart n u v x (g .out n u v i))
+      unrefused-beside q addsQ (g .beside) (unrefused d q e) (λ n u v x i. apart n u v x (g .out n u v i))
     where
       apart : (n u v : ℕ) → Joins q n u v → Step (d .row n) u v ⊎ Joins p n u v → ⊥
-      apart n u v x (inl i) = not-there q addsQ d (sound-turns d sound) (unrefused d sized sound q e) n u v x i
+      apart n u v x (inl i) = not-there q addsQ d (sound-turns d sound) (unrefused d q e) n u v x i
       apart n u v x (inr y) = new-p n u v y (blind-grown q addsQ d .new n u v x)
 
   -- dpq and dqp have the same steps.

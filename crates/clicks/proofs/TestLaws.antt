@@ -1,4 +1,4 @@
--- The tests of specs/Tests.antt say what the conditions of specs/Clicks.antt say.
+-- What the tests of specs/Tests.antt say of the conditions of specs/Clicks.antt.
 use mathlib.Core.Path.{_≡_, refl, ap}
 use mathlib.Core.Bool.{true, _&&_}
 use mathlib.Core.List.{List, [], _∷_}

@@ -14,11 +14,11 @@ use Rattle.rules.specs.Requests.{Request}
 use Rattle.rules.specs.Meaning.{Fits}
 use Rattle.demands.specs.Demand3.{Passes, Accepted, kept}
 
--- a request of kinds 4 to 10: it adds something
+-- a request that adds something: one of kinds 4 to 10
 abbrev pub Adding : Request → Type 0
 Adding q = (4 ≤ q .kind) × (q .kind ≤ 10)
 
--- each of a list does
+-- a list of such requests
 abbrev pub AllAdding : List Request → Type 0
 AllAdding [] = Unit {0}
 AllAdding (q ∷ qs) = Adding q × AllAdding qs
@@ -45,20 +45,24 @@ OrderFree =
 abbrev pub kindBack : ℕ → ℕ
 kindBack k = elim (ltb k 8) [ true ↦ k + 14 | false ↦ k + 7 ]
 
--- the request that takes back what q adds
-abbrev pub takingBack : Request → Request
-takingBack q = record { kind = kindBack (q .kind); a = q .a; b = q .b; c = q .c }
+-- The request p names the two things that q names; of a pair, kinds 4 to 7, in either order. The third number is not used, and may be any.
+abbrev pub NamesSame : Request → Request → Type 0
+NamesSame q p = ((p .a ≡ q .a) × (p .b ≡ q .b)) ⊎ ((q .kind < 8) × (p .a ≡ q .b) × (p .b ≡ q .a))
+
+-- p takes back what q adds: it is of that kind, and names the same.
+abbrev pub TakesBack : Request → Request → Type 0
+TakesBack q p = (p .kind ≡ kindBack (q .kind)) × NamesSame q p
 
 -- 2. On a book that passes the audit, a request of kinds 4 to 10 followed at once by the one that takes it back, both accepted,
--- restores every word.
+-- restores every word. (Past the last word of the book there is nothing to restore.)
 abbrev pub Restored : Type 0
 Restored =
-    (w : ℕ → ℕ) → Fits w → Passes w → (q : Request) → Adding q → Accepted w q → Accepted (kept w q) (takingBack q)
-    → (i : ℕ) → i < bookWords → kept (kept w q) (takingBack q) i ≡ w i
+    (w : ℕ → ℕ) → Fits w → Passes w → (q p : Request) → Adding q → TakesBack q p → Accepted w q → Accepted (kept w q) p
+    → (i : ℕ) → i < bookWords → kept (kept w q) p i ≡ w i
 
 -- 3. More than was asked: the second of the two is accepted whenever the first is.
 abbrev pub BackAccepted : Type 0
-BackAccepted = (w : ℕ → ℕ) → Fits w → Passes w → (q : Request) → Adding q → Accepted w q → Accepted (kept w q) (takingBack q)
+BackAccepted = (w : ℕ → ℕ) → Fits w → Passes w → (q p : Request) → Adding q → TakesBack q p → Accepted w q → Accepted (kept w q) p
 
 -- the table that a kind of 4 to 10 adds to
 abbrev pub addsTo : ℕ → ℕ
