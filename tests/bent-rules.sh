@@ -4,7 +4,7 @@
 # which is not of kind 11, person 0 does not act in what they acted in. Of rules by which the order of clicking matters, or by which what is
 # taken back leaves a trace, it is proved that they do not meet M-102, at the book and the list of one trial. Of rules that are only written
 # another way it is proved that the trial still holds. The copy has the definitions and the law that a trial is the statement at its book,
-# and no other law: those would be refused for the wording alone.
+# with the few on tests and small books that it cites, and none on the rules: those would be refused for the wording alone.
 # Sourced by .ci/run, or called alone.
 
 type holds >/dev/null 2>&1 || . "$(dirname "${BASH_SOURCE[0]}")/alone"
@@ -67,8 +67,8 @@ END
 # The definitions that the claim speaks of, with NEW for OLD in one file of the rules, and the claim.
 bent_copy() { # ROOM CLAIM FILE OLD NEW FAMILY TRIAL
     case $2 in
-    disordered | traced | ordered | untraced) law=ListInstances claim=bent_list_claim crates='sets chains rules demands clicks trials' gone=Tried ;;
-    *) law=Instances claim=bent_claim crates='sets chains rules demands trials' gone='Tried ListTrial Lists' ;;
+    disordered | traced | ordered | untraced) law=ListInstances claim=bent_list_claim crates='sets chains rules demands clicks trials' gone='Tried Needed' ;;
+    *) law=Instances claim=bent_claim crates='sets chains rules demands trials' gone='Tried Needed ListTrial Lists' ;;
     esac
     for crate in $crates; do
         mkdir -p "$1/$crate/src" "$1/$crate/proofs"

@@ -1,3 +1,4 @@
 pub mod Instances
 pub mod ListInstances
 pub mod Exact
+pub mod Needed

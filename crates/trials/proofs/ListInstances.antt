@@ -1,6 +1,7 @@
 -- A trial of a list is nothing but M-102 at one book: where its statements hold, every such trial does.
 -- So rules of which a trial fails do not meet M-102.
 use mathlib.Core.Path.{_≡_, refl}
+use mathlib.Core.Logic.{inl}
 use mathlib.Core.Bool.{Bool, true, false}
 use mathlib.Core.List.{List, [], _∷_, reverse, Perm·symm, reverse-perm}
 use Prim.Native.Nat.{ℕ, _<_}
@@ -17,7 +18,7 @@ use Rattle.rules.proofs.SaidLaws.{accepted-out}
 use Rattle.rules.proofs.SmallLaws.{small-fits}
 use Rattle.demands.specs.Demand3.{Passes}
 use Rattle.clicks.specs.Clicks.{AllAdding, OrderFree, Restored}
-use Rattle.clicks.specs.Tests.{allAdding, allAccepted}
+use Rattle.clicks.specs.Tests.{allAdding, allAccepted, takingBack}
 use Rattle.clicks.proofs.TestLaws.{adding-out, accepts-in, accepts-out}
 use Rattle.trials.specs.ListTrial.{ListTrial, sameAt, ready, listFair, orderly, bothAccepted, restores, traceless}
 
@@ -72,5 +73,5 @@ restored-tried back t = shows (implies-in (ready t) _ (λ e. let r = ready-out t
         and-in
         (implies-in (bothAccepted w q) _ (λ e.
         let x = and-out (isAccepted (answer bookWords w q)) _ e in
-        same-at _ _ (back w fits passes q h (accepted-out _ (x .0)) (accepted-out _ (x .1))) (t .places)))
+        same-at _ _ (back w fits passes q (takingBack q) h (refl, inl (refl, refl)) (accepted-out _ (x .0)) (accepted-out _ (x .1))) (t .places)))
         (each fits passes qs adding)

@@ -6,4 +6,5 @@ pub mod Orders
 pub mod Guarded
 pub mod ListTrial
 pub mod Lists
+pub mod Needed
 pub mod Tried

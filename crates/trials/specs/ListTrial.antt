@@ -11,8 +11,8 @@ use Rattle.rules.specs.Numbers.{isAccepted, answer}
 use Rattle.rules.specs.Audit.{implies, audited}
 use Rattle.rules.specs.Small.{Word, bookOf, small}
 use Rattle.demands.specs.Demand3.{kept}
-use Rattle.clicks.specs.Clicks.{final, takingBack}
-use Rattle.clicks.specs.Tests.{allAdding, allAccepted}
+use Rattle.clicks.specs.Clicks.{final}
+use Rattle.clicks.specs.Tests.{allAdding, allAccepted, takingBack}
 
 -- a book, by its words that are not 0, a list of requests, and the places that are looked at afterwards
 pub record ListTrial : Type 0 where
@@ -59,7 +59,11 @@ restores w is (q ∷ qs) = implies (bothAccepted w q) (sameAt (kept (kept w q) (
 unfoldable pub traceless : ListTrial → Bool
 traceless t = implies (ready t) (restores (bookOf (t .words)) (t .places) (t .list))
 
--- each of a list of trials is fair
+-- each of a list of trials is fair, or none is
 abbrev pub allListsFair : List ListTrial → Bool
 allListsFair [] = true
 allListsFair (t ∷ ts) = elim (listFair t) [ true ↦ allListsFair ts | false ↦ false ]
+
+abbrev pub noListFair : List ListTrial → Bool
+noListFair [] = true
+noListFair (t ∷ ts) = elim (listFair t) [ true ↦ false | false ↦ noListFair ts ]

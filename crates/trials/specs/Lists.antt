@@ -36,3 +36,6 @@ chainedPairs = record { words = (0, 7) ∷ []; list = ask 4 0 2 ∷ ask 7 0 1 �
 -- 22 stands against the second: SME 0-1, DME 0-1
 abbrev pub bothExclusions : ListTrial
 bothExclusions = record { words = (0, 3) ∷ []; list = ask 4 0 1 ∷ ask 5 0 1 ∷ []; places = place SME 0 ∷ [] }
+
+abbrev pub guardedLists : List ListTrial
+guardedLists = chainedPairs ∷ bothExclusions ∷ []
