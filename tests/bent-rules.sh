@@ -2,7 +2,7 @@
 # demand 3: at the book of one trial (crate trials) a request is accepted although the changed book breaks a rule, or refused although
 # it breaks none. Of changes that let a person act, or stop them, it is proved that they do not meet M-101: after the trial's request,
 # which is not of kind 11, person 0 does not act in what they acted in. Of rules by which the order of clicking matters, or by which what is
-# taken back leaves a trace, it is proved that they do not meet M-102, at the book and the list of one trial. Of rules that are only written
+# taken back leaves a trace, it is proved that they do not meet M-102, at the book and the list of one trial (crate list_trials). Of rules that are only written
 # another way it is proved that the trial still holds. The copy has the definitions and the law that a trial is the statement at its book,
 # with the few on tests and small books that it cites, and none on the rules: those would be refused for the wording alone.
 # Sourced by .ci/run, or called alone.
@@ -51,9 +51,9 @@ use lib.Dec.{T}
 use Rattle.rules.specs.Computed.{computed}
 use Rattle.rules.specs.Numbers.{wordsAfter}
 use Rattle.clicks.specs.Clicks.{OrderFree, Restored}
-use Rattle.trials.specs.ListTrial.{listFair, orderly, traceless}
-use Rattle.trials.specs.$2.{$3}
-use Rattle.trials.proofs.ListInstances.{order-free-tried, restored-tried}
+use Rattle.list_trials.specs.ListTrial.{listFair, orderly, traceless}
+use Rattle.list_trials.specs.$2.{$3}
+use Rattle.list_trials.proofs.Instances.{order-free-tried, restored-tried}
 
 END
     case $1 in
@@ -67,26 +67,26 @@ END
 # The definitions that the claim speaks of, with NEW for OLD in one file of the rules, and the claim.
 bent_copy() { # ROOM CLAIM FILE OLD NEW FAMILY TRIAL
     case $2 in
-    disordered | traced | ordered | untraced) law=ListInstances claim=bent_list_claim crates='sets chains rules demands clicks trials' gone='Tried Needed' ;;
-    *) law=Instances claim=bent_claim crates='sets chains rules demands trials' gone='Tried Needed ListTrial Lists' ;;
+    disordered | traced | ordered | untraced) below='sets chains rules demands clicks' tried=list_trials claim=bent_list_claim gone='Tried Needed' ;;
+    *) below='sets chains rules demands' tried=trials claim=bent_claim gone=Tried ;;
     esac
-    for crate in $crates; do
-        mkdir -p "$1/$crate/src" "$1/$crate/proofs"
+    for crate in $below "$tried"; do
+        mkdir -p "$1/$crate/src"
         : >"$1/$crate/src/lib.rt"
-        : >"$1/$crate/proofs/Lib.antt"
         cp -R "crates/$crate/specs" "$1/$crate/specs"
     done
     for file in $gone; do
-        sed -i "/^pub mod $file\$/d" "$1/trials/specs/Lib.antt"
-        rm "$1/trials/specs/$file.antt"
+        sed -i "/^pub mod $file\$/d" "$1/$tried/specs/Lib.antt"
+        rm "$1/$tried/specs/$file.antt"
     done
-    for file in sets/Logic rules/SaidLaws rules/SmallLaws clicks/TestLaws "trials/$law"; do
+    for file in sets/Logic rules/SaidLaws rules/SmallLaws clicks/TestLaws "$tried/Instances"; do
         [ -d "$1/${file%/*}" ] || continue
+        mkdir -p "$1/${file%/*}/proofs"
         cp "crates/${file%/*}/proofs/${file#*/}.antt" "$1/${file%/*}/proofs/"
         echo "pub mod ${file#*/}" >>"$1/${file%/*}/proofs/Lib.antt"
     done
-    "$claim" "$2" "$6" "$7" >"$1/trials/proofs/Claim.antt"
-    echo 'pub mod Claim' >>"$1/trials/proofs/Lib.antt"
+    "$claim" "$2" "$6" "$7" >"$1/$tried/proofs/Claim.antt"
+    echo 'pub mod Claim' >>"$1/$tried/proofs/Lib.antt"
     text=$(cat "$1/rules/specs/$3")
     rest=${text/"$4"/}
     [ "$text" != "$rest" ] || { echo "crates/rules/specs/$3 does not have the text: $4"; return 1; }
@@ -97,12 +97,11 @@ bent_copy() { # ROOM CLAIM FILE OLD NEW FAMILY TRIAL
 # Says that the claim is proved, or what the prover says first.
 bent_verdict() { # ROOM CLAIM FILE OLD NEW FAMILY TRIAL
     bent_copy "$@" || return
-    below=''
-    for crate in ${crates% trials}; do
-        below="$below --lib $crate=$1/$crate/src/lib.rt"
+    libraries=()
+    for crate in $below; do
+        libraries+=(--lib "$crate=$1/$crate/src/lib.rt")
     done
-    # shellcheck disable=SC2086
-    rt check "$1/trials" $below >"$1/log" 2>&1
+    rt check "$1/$tried" "${libraries[@]}" >"$1/log" 2>&1
     if grep -q '^logic=proved' "$1/log"; then echo proved; else grep -m 1 error "$1/log" | cut -c 1-400; fi
 }
 

@@ -1,4 +1,2 @@
 pub mod Instances
-pub mod ListInstances
 pub mod Exact
-pub mod Needed

@@ -4,7 +4,4 @@ pub mod PairsBack
 pub mod Staff
 pub mod Orders
 pub mod Guarded
-pub mod ListTrial
-pub mod Lists
-pub mod Needed
 pub mod Tried

@@ -1,17 +1,13 @@
--- The trials are fair, list by list, by computation: each starts from a book that passes the audit, with a request that no refusal meets, or
--- with a list of requests of kinds 4 to 10 that are all accepted; but for those that our rules are there to stop.
--- That each holds is not computed again: proofs/Exact.antt has it from demand 3 and from M-102.
+-- The trials are fair, list by list, by computation: each starts from a book that passes the audit, with a request that no refusal meets.
+-- That each is exact is not computed again: proofs/Instances.antt has it from demand 3.
 use lib.Dec.{T}
 use Rattle.rules.specs.Computed.{computed}
-use Rattle.rules.specs.Numbers.{wordsAfter}
 use Rattle.trials.specs.Trial.{fair, allFair, noneFair}
 use Rattle.trials.specs.Pairs.{exclusions, bindings}
 use Rattle.trials.specs.PairsBack.{pairsBack}
 use Rattle.trials.specs.Staff.{assignments}
 use Rattle.trials.specs.Orders.{hands}
 use Rattle.trials.specs.Guarded.{guarded}
-use Rattle.trials.specs.ListTrial.{listFair, allListsFair, noListFair}
-use Rattle.trials.specs.Lists.{lists, guardedLists}
 
 pub exclusions-fair : T (allFair exclusions)
 unfolding computed fair
@@ -36,11 +32,3 @@ hands-fair = tt
 pub guarded-unfair : T (noneFair guarded)
 unfolding computed fair
 guarded-unfair = tt
-
-pub lists-fair : T (allListsFair lists)
-unfolding computed wordsAfter listFair
-lists-fair = tt
-
-pub guarded-lists-unfair : T (noListFair guardedLists)
-unfolding computed wordsAfter listFair
-guarded-lists-unfair = tt

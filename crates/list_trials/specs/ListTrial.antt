@@ -1,5 +1,5 @@
 -- Trials of M-102 (crates/clicks/specs/Clicks.antt): its statements at one small book, so that they compute. A list is tried in its own
--- order and turned round; a request is tried with the one that takes it back. proofs/ListInstances.antt shows that such a trial is
+-- order and turned round; a request is tried with the one that takes it back. proofs/Instances.antt shows that such a trial is
 -- nothing but the statement: where that holds, every trial does.
 use mathlib.Core.Bool.{Bool, true, false, _&&_}
 use mathlib.Core.List.{List, [], _∷_, reverse}

@@ -20,7 +20,7 @@ use Rattle.demands.specs.Demand3.{Passes}
 use Rattle.clicks.specs.Clicks.{AllAdding, OrderFree, Restored}
 use Rattle.clicks.specs.Tests.{allAdding, allAccepted, takingBack}
 use Rattle.clicks.proofs.TestLaws.{adding-out, accepts-in, accepts-out}
-use Rattle.trials.specs.ListTrial.{ListTrial, sameAt, ready, listFair, orderly, bothAccepted, restores, traceless}
+use Rattle.list_trials.specs.ListTrial.{ListTrial, sameAt, ready, listFair, orderly, bothAccepted, restores, traceless}
 
 -- An implication holds where its second part does whenever the first does.
 implies-in : (s t : Bool) → (s ≡ true → t ≡ true) → implies s t ≡ true

@@ -2,7 +2,7 @@
 -- rule accepts whole.
 use mathlib.Core.List.{List, [], _∷_}
 use Rattle.rules.specs.Book.{SME, DME, RB, SB, juniors, tasksOf, rolesOf, active}
-use Rattle.trials.specs.ListTrial.{ListTrial, ask, place}
+use Rattle.list_trials.specs.ListTrial.{ListTrial, ask, place}
 
 -- accepted: one request of each of kinds 4 to 10
 abbrev pub sevenKinds : ListTrial

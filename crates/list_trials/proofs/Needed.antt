@@ -16,8 +16,8 @@ use Rattle.rules.proofs.SaidLaws.{accepted-out}
 use Rattle.rules.proofs.SmallLaws.{small-fits}
 use Rattle.clicks.specs.Tests.{takingBack}
 use Rattle.clicks.proofs.TestLaws.{adding-out, accepts-in, accepts-out}
-use Rattle.trials.specs.ListTrial.{ask, place}
-use Rattle.trials.specs.Needed.{AuditNeeded, AcceptedNeeded, KindsNeeded, AuditNeededBack, AcceptedNeededBack, twoTasks, twoOwned}
+use Rattle.list_trials.specs.ListTrial.{ask, place}
+use Rattle.list_trials.specs.Needed.{AuditNeeded, AcceptedNeeded, KindsNeeded, AuditNeededBack, AcceptedNeededBack, twoTasks, twoOwned}
 
 -- a list turned round
 turned : (qs : List Request) → Perm qs (reverse qs)

@@ -1,0 +1,4 @@
+pub mod ListTrial
+pub mod Lists
+pub mod Needed
+pub mod Tried
