@@ -14,10 +14,10 @@
  * numbers out of range: each has its own answer. The number 0 is told of an accepted request, and of an audit that finds nothing, and of
  * nothing else.
  *
- * Of several requests, proved as well (change request M-102): where the audit of a book answers 0, and a list of requests of kinds 4 to 10 is
- * accepted one after the other, it is accepted in every other order too, and the book is the same in every word afterwards. So it does not
- * matter in which order two panels put such a list. A request of these kinds that was accepted and is taken back at once (by kinds 18 to 21
- * for 4 to 7, 15 to 17 for 8 to 10, with the same a and b) leaves every word as it was before it, and taking it back is accepted.
+ * Of several requests, proved as well (change request M-102) of a book whose audit answers 0: a list of requests of kinds 4 to 10 that is
+ * accepted one after the other is accepted in every other order too, and the book is the same in every word afterwards; so it does not
+ * matter in which order two panels put such a list. And a request of these kinds that was accepted and is taken back at once (by kinds 18 to
+ * 21 for 4 to 7, 15 to 17 for 8 to 10, with the same a and b) leaves every word as it was before it, and taking it back is accepted.
  *
  * WHAT A CALL DOES AND DOESN'T DO
  *   - It ends. Each loop and each recursion is bounded, and nothing waits. That is proved of the function's run on the

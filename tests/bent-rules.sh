@@ -5,7 +5,7 @@
 # taken back leaves a trace, it is proved that they do not meet M-102, at the book and the list of one trial (crate list_trials). Of rules that are only written
 # another way it is proved that the trial still holds. The copy has the definitions and the law that a trial is the statement at its book,
 # with the few on tests and small books that it cites, and none on the rules: those would be refused for the wording alone.
-# Sourced by .ci/run, or called alone.
+# Run by .ci/run in a shell of its own, or called alone.
 
 type holds >/dev/null 2>&1 || . "$(dirname "${BASH_SOURCE[0]}")/alone"
 

@@ -1,5 +1,5 @@
 # What a reader would trip over: long lines, unused imports, uncited laws, indirect dependencies, names that nothing has.
-# Sourced by .ci/run, or called alone.
+# Run by .ci/run in a shell of its own, or called alone.
 
 type holds >/dev/null 2>&1 || . "$(dirname "${BASH_SOURCE[0]}")/alone"
 

@@ -1,5 +1,5 @@
 # The independent program: its own tests, counted one by one, and that its cases reach every answer there is.
-# Sourced by .ci/run, or called alone.
+# Run by .ci/run in a shell of its own, or called alone.
 type holds >/dev/null 2>&1 || . "$(dirname "${BASH_SOURCE[0]}")/alone"
 
 own_tests() { # LOG: runs them and adds each to the count

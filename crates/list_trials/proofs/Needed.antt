@@ -1,4 +1,4 @@
--- Each condition of M-102 is needed, by computation at a small book: in its own order the list leads elsewhere than turned round, or what is
+-- The conditions of M-102 are needed, by computation at small books: in its own order a list leads elsewhere than turned round, or what is
 -- taken back leaves a trace.
 use mathlib.Core.Path.{refl, sym}
 use mathlib.Core.Logic.{inl}
@@ -23,7 +23,7 @@ use Rattle.list_trials.specs.Needed.{AuditNeeded, AcceptedNeeded, KindsN
 turned : (qs : List Request) → Perm qs (reverse qs)
 turned qs = Perm·symm (reverse-perm qs)
 
--- STATEMENT 1. Task 1 is SME to task 0 and not the other way: role 1 and then role 0 are accepted, and turned round they are not.
+-- STATEMENT 1. Task 0 is SME to task 1 and not the other way: role 1 and then role 0 are accepted, and turned round they are not.
 pub audit-needed : AuditNeeded
 unfolding computed wordsAfter
 audit-needed f =
@@ -50,7 +50,7 @@ kinds-needed f =
     (f (bookOf twoOwned) (small-fits twoOwned refl) (accepted-out _ refl) list (reverse list) ((omega arith, omega arith), ((omega arith, omega arith), tt))
     (accepts-out (bookOf twoOwned) list refl) (turned list) (place active 0))))
 
--- STATEMENT 4. Task 1 is SME to task 0 and not the other way: SME 1-0 adds the other bit, and taken back both go.
+-- STATEMENT 4. Task 0 is SME to task 1 and not the other way: SME 1-0 adds the other bit, and taken back both go.
 pub audit-needed-back : AuditNeededBack
 unfolding computed wordsAfter
 audit-needed-back f =

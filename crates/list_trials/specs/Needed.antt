@@ -1,5 +1,6 @@
--- What M-102 asks for is needed: left out, each of its conditions makes the sentence false (crates/clicks/specs/Clicks.antt has them whole).
--- proofs/Needed.antt refutes each at one small book. That kind 10 must not make a role active (M-101) is shown by tests/bent-rules.sh.
+-- What M-102 asks for is needed. With the audit, the acceptance or the bound on the kinds left out, its sentences are false
+-- (crates/clicks/specs/Clicks.antt has them whole); proofs/Needed.antt refutes each at one small book. That kind 10 must not make a role
+-- active (M-101) is shown by tests/bent-rules.sh.
 use mathlib.Core.Path.{_≡_}
 use mathlib.Core.List.{List, [], _∷_, Perm}
 use Prim.Native.Nat.{ℕ, _≤_, _<_}
@@ -10,12 +11,12 @@ use Rattle.rules.specs.Meaning.{Fits}
 use Rattle.demands.specs.Demand3.{Passes, Accepted, kept}
 use Rattle.clicks.specs.Clicks.{Adding, AllAdding, AllAccepted, final, TakesBack}
 
--- 1. On a book that need not pass the audit: a list that is accepted is not accepted in every order.
+-- 1. On a book that need not pass the audit, a list that is accepted may be refused in another order.
 abbrev pub AuditNeeded : Type 0
 AuditNeeded =
     ((w : ℕ → ℕ) → Fits w → (qs ps : List Request) → AllAdding qs → AllAccepted w qs → Perm qs ps → AllAccepted w ps) → ⊥
 
--- 2. A list of which some may be refused: the final book depends on the order.
+-- 2. Where some of a list may be refused, the final book may depend on the order.
 abbrev pub AcceptedNeeded : Type 0
 AcceptedNeeded =
     ((w : ℕ → ℕ) → Fits w → Passes w → (qs ps : List Request) → AllAdding qs → Perm qs ps → (i : ℕ) → final w ps i ≡ final w qs i) → ⊥
@@ -25,19 +26,19 @@ abbrev pub WithActivations : List Request → Type 0
 WithActivations [] = Unit {0}
 WithActivations (q ∷ qs) = ((4 ≤ q .kind) × (q .kind ≤ 11)) × WithActivations qs
 
--- 3. A list that may have kind 11 in it: all are accepted, and the final book depends on the order.
+-- 3. With kind 11 in a list all may be accepted, and the final book may depend on the order all the same.
 abbrev pub KindsNeeded : Type 0
 KindsNeeded =
     ((w : ℕ → ℕ) → Fits w → Passes w → (qs ps : List Request) → WithActivations qs → AllAccepted w qs → Perm qs ps
     → (i : ℕ) → final w ps i ≡ final w qs i) → ⊥
 
--- 4. On a book that need not pass the audit: what is taken back at once leaves a trace.
+-- 4. On a book that need not pass the audit, what is taken back at once may leave a trace.
 abbrev pub AuditNeededBack : Type 0
 AuditNeededBack =
     ((w : ℕ → ℕ) → Fits w → (q p : Request) → Adding q → TakesBack q p → Accepted w q → Accepted (kept w q) p
     → (i : ℕ) → i < bookWords → kept (kept w q) p i ≡ w i) → ⊥
 
--- 5. After a request that was refused, the one that takes it back restores nothing: it takes what stood before.
+-- 5. After a request that was refused, the one that takes it back may be accepted, and take what stood before.
 abbrev pub AcceptedNeededBack : Type 0
 AcceptedNeededBack =
     ((w : ℕ → ℕ) → Fits w → Passes w → (q p : Request) → Adding q → TakesBack q p → Accepted (kept w q) p
