@@ -2,9 +2,10 @@
 # demand 3: at the book of one trial (crate trials) a request is accepted although the changed book breaks a rule, or refused although
 # it breaks none. Of changes that let a person act, or stop them, it is proved that they do not meet M-101: after the trial's request,
 # which is not of kind 11, person 0 does not act in what they acted in. Of rules by which the order of clicking matters, or by which what is
-# taken back leaves a trace, it is proved that they do not meet M-102, at the book and the list of one trial (crate list_trials). Of rules that are only written
-# another way it is proved that the trial still holds. The copy has the definitions and the law that a trial is the statement at its book,
-# with the few on tests and small books that it cites, and none on the rules: those would be refused for the wording alone.
+# taken back leaves a trace, it is proved that they do not meet M-102, at the book and the list of one trial (crate list_trials). Of rules
+# that are only written another way it is proved that the trial still holds. The copy has the definitions and the law that a trial is the
+# statement at its book, with the few on tests and small books that it cites, and none on the rules: those would be refused for the wording
+# alone.
 # Run by .ci/run in a shell of its own, or called alone.
 
 type holds >/dev/null 2>&1 || . "$(dirname "${BASH_SOURCE[0]}")/alone"

@@ -1,11 +1,13 @@
 -- The rules look at the words of a book and at nothing past them: words that agree there have the same tables,
 -- so the same answer, the same audit, and words afterwards that agree again.
-use mathlib.Core.Path.{_≡_, ap, _∙_}
+use mathlib.Core.Path.{_≡_, sym, ap, _∙_}
 use mathlib.Core.Bool.{true, false, _&&_}
 use mathlib.Core.List.{List}
 use Prim.Native.Nat.{ℕ, _+_, _*_, _≤_, _<_}
 use native.Mathlib.Omega.{arith}
 use lib.Dec.{ltb}
+use lib.ListN.{length}
+use lib.Seq.{ext-getD}
 use borrow.Author.Tests.{ltb-true}
 use Rattle.sets.proofs.Logic.{and-out}
 use Rattle.rules.specs.Book.{Book, bookWords, headWords, tableCount, cellsAt, read, write}
@@ -55,13 +57,22 @@ pub record Holds (l : List ℕ) (w : ℕ → ℕ) : Type 0 where
   pub full : Full l
   pub same : Agree (words l) w
 
--- Then they are after a request.
+-- Then it is answered as w is,
+pub holds-answer : {l : List ℕ} {w : ℕ → ℕ} → Holds l w → (q : Request) → answer (length l) (words l) q ≡ answer bookWords w q
+holds-answer {l} b q = ap (λ (n : ℕ). answer n (words l) q) (b .full) ∙ agree-answer (b .same) q
+
+-- what is stored are the words that demand 3 keeps,
 pub holds-after : {before after : List ℕ} {w : ℕ → ℕ} {q : Request} → Holds before w → Stored before after q → Holds after (kept w q)
 holds-after {before} {after} {w} {q} b o = record {
   full = o .as-long ∙ b .full;
   same = λ i h.
       o .each-word i (omega (arith, b .full))
-      ∙ ap (λ (n : ℕ). wordsAfter (answer n (words before) q) (words before) q i) (b .full)
-      ∙ ap (λ (s : Said). wordsAfter s (words before) q i) (agree-answer (b .same) q)
+      ∙ ap (λ (s : Said). wordsAfter s (words before) q i) (holds-answer b q)
       ∙ agree-after (b .same) (answer bookWords w q) q i h;
 }
+
+-- and two slices that hold words which agree are one.
+pub holds-one : {l m : List ℕ} {v w : ℕ → ℕ} → Holds l v → Holds m w → Agree v w → l ≡ m
+holds-one {l} {m} x y same =
+    ext-getD 0 l m (x .full ∙ sym (y .full))
+    (λ i h. let k = x .full in x .same i (omega arith) ∙ same i (omega arith) ∙ sym (y .same i (omega arith)))

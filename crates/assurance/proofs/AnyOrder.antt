@@ -4,10 +4,8 @@ use mathlib.Core.Path.{_≡_, refl, sym, ap, _∙_, subst}
 use mathlib.Core.Bool.{not}
 use mathlib.Core.List.{List}
 use Prim.Native.Nat.{ℕ}
-use native.Mathlib.Omega.{arith}
 use lib.Dec.{eqb}
-use lib.ListN.{length, getD}
-use lib.Seq.{ext-getD}
+use lib.ListN.{length}
 use borrow.Author.Tests.{eqb-true, not-false}
 use Rattle.rules.specs.Book.{bookWords}
 use Rattle.rules.specs.Requests.{Request}
@@ -28,8 +26,8 @@ use Rattle.towerplank.specs.Told.{fourWords, Told, ToldAudit}
 use Rattle.assurance.specs.Served.{Serving, Entry, InC}
 use Rattle.assurance.specs.AnyOrder.{Run, none, first, EntryAccepts, zeros, AcceptsInC, OrderFreeBy, RestoredBy}
 use Rattle.assurance.specs.AnyOrder.{OrderFreeServed, RestoredServed, OrderFreeInC, RestoredInC}
-use Rattle.assurance.proofs.Agree.{Agree, Holds, holds-after, agree-answer}
-use Rattle.assurance.proofs.Zero.{zero-accepts, zero-passes}
+use Rattle.assurance.proofs.Agree.{Holds, holds-answer, holds-after, holds-one}
+use Rattle.assurance.proofs.Zero.{told-accepted, told-passes}
 
 -- A slice that passes the audit is full.
 audited-full : (n : ℕ) (w : ℕ → ℕ) → audited n w ≡ accepted → n ≡ bookWords
@@ -45,23 +43,19 @@ record Door (Passed : List ℕ → Type 0) (Serves Accepts : Serving) : Type 0 w
   accepts : {q : Request} {before after : List ℕ} → Serves q before after → answer (length before) (words before) q ≡ accepted → Accepts q before after
 
 module _ {Passed : List ℕ → Type 0} {Serves Accepts : Serving} (door : Door Passed Serves Accepts) where
-  -- Of a slice that holds w, the answer is that of w.
-  answered : {l : List ℕ} {w : ℕ → ℕ} → Holds l w → (q : Request) → answer (length l) (words l) q ≡ answer bookWords w q
-  answered {l} h q = ap (λ (n : ℕ). answer n (words l) q) (h .full) ∙ agree-answer (h .same) q
-
   -- A run in which all are accepted is one of w ..
   run-accepted : {qs : List Request} {l m : List ℕ} {w : ℕ → ℕ} → Holds l w → Run Accepts qs l m → AllAccepted w qs × Holds m (final w qs)
   run-accepted h none = (tt, h)
   run-accepted h (first {q = q} o run) =
       let rest = run-accepted (holds-after h (door .keeps o)) run in
-      ((sym (answered h q) ∙ door .told o, rest .0), rest .1)
+      ((sym (holds-answer h q) ∙ door .told o, rest .0), rest .1)
 
   -- .. and where all of w are accepted, those of the slice are.
   run-served : {qs : List Request} {l m : List ℕ} {w : ℕ → ℕ} → Holds l w → AllAccepted w qs → Run Serves qs l m → Run Accepts qs l m × Holds m (final w qs)
   run-served h all none = (none, h)
   run-served h (e, all) (first {q = q} o run) =
       let rest = run-served (holds-after h (door .stores o)) all run in
-      (first (door .accepts o (answered h q ∙ e)) (rest .0), rest .1)
+      (first (door .accepts o (holds-answer h q ∙ e)) (rest .0), rest .1)
 
   -- The slice that passed holds its own words, and they pass.
   passed-full : {l : List ℕ} → Passed l → Full l
@@ -73,12 +67,6 @@ module _ {Passed : List ℕ → Type 0} {Serves Accepts : Serving} (door : Door 
   passing : {l : List ℕ} → Passed l → demand.Passes (words l)
   passing {l} p = ap (λ (n : ℕ). audited n (words l)) (sym (passed-full p)) ∙ door .passes l p
 
-  -- Two slices that hold words which agree are one.
-  one-slice : {l m : List ℕ} {v w : ℕ → ℕ} → Holds l v → Holds m w → Agree v w → l ≡ m
-  one-slice {l} {m} x y same =
-      ext-getD 0 l m (x .full ∙ sym (y .full))
-      (λ i h. let k = x .full in x .same i (omega arith) ∙ same i (omega arith) ∙ sym (y .same i (omega arith)))
-
   -- The order of clicking does not matter at this door,
   by-order : OrderFreeBy Passed Serves Accepts
   by-order one two one′ two′ qs ps same fit passed adding r run run′ =
@@ -86,18 +74,18 @@ module _ {Passed : List ℕ → Type 0} {Serves Accepts : Serving} (door : Door 
       let x = run-accepted (itself passed) run in
       let free = order-free w fit (passing passed) qs ps adding (x .0) r in
       let y = run-served (subst (λ (l : List ℕ). Holds l w) same (itself passed)) (free .0) run′ in
-      (y .0, one-slice (y .1) (x .1) (λ i h. free .1 i))
+      (y .0, holds-one (y .1) (x .1) (λ i h. free .1 i))
 
   -- and what is taken back at once leaves no trace.
   by-restored : RestoredBy Passed Serves Accepts
   by-restored before between after q p fit passed adds takes o o′ =
       let w = words before in
       let held = itself passed in
-      let e = sym (answered held q) ∙ door .told o in
+      let e = sym (holds-answer held q) ∙ door .told o in
       let gained = holds-after held (door .keeps o) in
       let back = back-accepted w fit (passing passed) q p adds takes e in (
-        door .accepts o′ (answered gained p ∙ back),
-        one-slice (holds-after gained (door .stores o′)) held (restored w fit (passing passed) q p adds takes e back),
+        door .accepts o′ (holds-answer gained p ∙ back),
+        holds-one (holds-after gained (door .stores o′)) held (restored w fit (passing passed) q p adds takes e back),
       )
 
 -- The entries: an answer is known by what it says.
@@ -113,15 +101,12 @@ entry = record {
 -- The C functions: the number 0 is told by no other answer.
 inC : Door (λ l. ToldAudit l zeros) InC AcceptsInC
 inC = record {
-  passes = λ l e. zero-passes (length l) (words l) (sym (ap number e));
+  passes = λ l e. told-passes l e refl;
   stores = λ (four, o). o .stored;
   keeps = λ o. o .stored;
-  told = λ {q} {before} {after} o. zero-accepts (length before) (words before) q (sym (ap number (o .told)));
+  told = λ o. told-accepted o refl;
   accepts = λ {q} {before} {after} (four, o) e. subst (Told before after q) (o .told ∙ ap fourWords e) o;
 }
-  where
-    number : List ℕ → ℕ
-    number four = getD four 0 0
 
 -- STATEMENTS 1 and 2: the entries.
 pub order-free-served : OrderFreeServed

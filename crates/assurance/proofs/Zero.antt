@@ -18,7 +18,7 @@ use Rattle.rules.specs.Numbers.{heldSme, heldDme, unlisted, smeConflicts, dmeCo
 use Rattle.rules.specs.Numbers.{roleConflicts, heldConflicts, byTable, pairConflicts, assignConflicts, conflicts, firstOf, conflict, orElse, judge, answer}
 use Rattle.rules.specs.Audit.{audit, audited, firstBroken, ruleCount}
 use Rattle.book.specs.Slice.{words}
-use Rattle.towerplank.specs.Told.{fourWords}
+use Rattle.towerplank.specs.Told.{fourWords, Told, ToldAudit}
 use Rattle.assurance.specs.Zero.{ZeroAccepts, ZeroPasses, ZeroInC, ZeroAuditInC}
 
 -- an answer that is accepted, or has a number above 0
@@ -194,15 +194,22 @@ zero-accepts n w q = numbered-zero (answer n w q) (answer-numbered n w q)
 pub zero-passes : ZeroPasses
 zero-passes n w = numbered-zero (audited n w) (audit-numbered n w)
 
--- the first of the four words
-abbrev first : List ℕ → ℕ
-first four = getD four 0 1
+-- What is told in C is told of an answer: where the first of the four words is 0, the answer is.
+told-zero : (s : Said) {four : List ℕ} → four ≡ fourWords s → getD four 0 1 ≡ 0 → numberOf s ≡ 0
+told-zero s o e = sym (ap (λ (l : List ℕ). getD l 0 1) o) ∙ e
+
+-- So the request is accepted,
+pub told-accepted : {before after : List ℕ} {q : Request} {four : List ℕ} → Told before after q four → getD four 0 1 ≡ 0
+    → answer (length before) (words before) q ≡ accepted
+told-accepted {before} {q = q} o e = zero-accepts (length before) (words before) q (told-zero (answer (length before) (words before) q) (o .told) e)
+
+-- or the audit finds nothing.
+pub told-passes : (l : List ℕ) {four : List ℕ} → ToldAudit l four → getD four 0 1 ≡ 0 → audited (length l) (words l) ≡ accepted
+told-passes l o e = zero-passes (length l) (words l) (told-zero (audited (length l) (words l)) o e)
 
 -- STATEMENTS 3 and 4: of the four words that are told.
 pub zero-in-c : ZeroInC
-zero-in-c before after q four o e =
-    let said = zero-accepts (length before) (words before) q (sym (ap first (o .told)) ∙ e) in
-    record { told = sym (ap fourWords said); stored = o .stored }
+zero-in-c before after q four o e = record { told = sym (ap fourWords (told-accepted o e)); stored = o .stored }
 
 pub zero-audit-in-c : ZeroAuditInC
-zero-audit-in-c l four o e = sym (ap fourWords (zero-passes (length l) (words l) (sym (ap first o) ∙ e)))
+zero-audit-in-c l four o e = sym (ap fourWords (told-passes l o e))

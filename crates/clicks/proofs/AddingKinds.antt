@@ -196,6 +196,7 @@ module _ (q : Request) where
 abbrev twin : Request → Request → Request
 twin q p = record { kind = q .kind; a = p .a; b = p .b; c = p .c }
 
+-- Who names the same is named the same.
 names-turn : (q p : Request) → NamesSame q p → NamesSame (twin q p) q
 names-turn q p (inl (x, y)) = inl (sym x, sym y)
 names-turn q p (inr (l, x, y)) = inr (l, sym y, sym x)
@@ -212,6 +213,7 @@ joins-twin q p names n u v (k, new) = (k, go names new)
 
 -- A request of kinds 4 to 10:
 module _ (q : Request) (adding : Adding q) where
+  -- it is one of the two families;
   adds : Adder (q .kind) (rowOf (q .kind)) (rowOf (kindBack (q .kind)))
   adds = adder (q .kind) (adding .0) (adding .1)
 
@@ -235,22 +237,24 @@ module _ (q : Request) (adding : Adding q) where
       let u = refusal-out d q e in
       refusal-in d′ q (record { fitting = fitting-beside s (u .fitting); state = refit q adds s (u .state) none })
 
-  -- A request that takes it back, on the changed book: it is not refused, and what joined is lost.
+  -- A request that takes it back, on the changed book:
   module _ (p : Request) (takes : TakesBack q p) (d : Book) (e : refusal d q ≡ accepted) where
-    -- what would join by the numbers of p is what joins by q
+    -- what would join by its numbers is what joins by q,
     to : (n u v : ℕ) → Joins q n u v → Joins (twin q p) n u v
     to n u v = joins-twin q p (takes .1) n u v
 
     from : (n u v : ℕ) → Joins (twin q p) n u v → Joins q n u v
     from n u v = joins-twin (twin q p) q (names-turn q p (takes .1)) n u v
 
-    -- the row of its kind
+    -- its row is that of the kind that takes back,
     takes-row : rowOf (kindBack (q .kind)) ≡ rowOf (p .kind)
     takes-row = ap rowOf (sym (takes .0))
 
+    -- what it names is fit for it,
     back-fitting : Fitting (blind d q) (rowOf (kindBack (q .kind))) (p .a) (p .b) (p .c)
     back-fitting = back-fits q adds (fitting-beside (blind-grown d .beside) (refusal-out d q e .fitting)) p (takes .1)
 
+    -- so it is not refused,
     pub back-unrefused : refusal (blind d q) p ≡ accepted
     back-unrefused =
         let state = refit-back (twin q p) adds (grown-as to from (blind-grown d)) (shut q adds d (refusal-out d q e .state)) in
@@ -259,6 +263,7 @@ module _ (q : Request) (adding : Adding q) where
           state = subst (λ (row : Row). stateRefusal (blind d q) (row .deed) (p .a) (p .b) (p .c) ≡ accepted) takes-row state;
         })
 
+    -- and what joined is lost.
     pub back-shrunk : Sized (blind d q) → Shrunk (blind d q) (blind (blind d q) p) (Joins q)
     unfolding blind
     back-shrunk sized =
