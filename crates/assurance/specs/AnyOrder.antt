@@ -33,7 +33,8 @@ abbrev pub AcceptsInC : Serving
 AcceptsInC q before after = Told before after q zeros
 
 -- Two slices equal in every word, which the audit has passed, are served with one list in two orders. If all of the first are accepted, all
--- of the second are, and the slices end equal in every word. (That its words are below 2^64 holds of every slice of u64.)
+-- of the second are, and the slices end equal in every word. (That its words are below 2^64 holds of every slice of u64. That it was accepted,
+-- and not answered otherwise, is what OneOutcome and OneTold say: one answer alone meets the guarantee.)
 abbrev pub OrderFreeBy : (List ℕ → Type 0) → Serving → Serving → Type 0
 OrderFreeBy Passed Serves Accepts =
     (one two one′ two′ : List ℕ) (qs ps : List Request) → one ≡ two → Fits (words one) → Passed one → AllAdding qs → Perm qs ps
