@@ -1,2 +1,3 @@
 pub mod OneFinding
 pub mod NoRule
+pub mod UndefinedLaws

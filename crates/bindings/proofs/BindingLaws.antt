@@ -1,13 +1,17 @@
 -- What a new binding is answered, from what the code has read by then: the conflicts of kinds 6 and 7, one after the other.
-use mathlib.Core.Path.{_≡_, refl, sym, _∙_}
+use mathlib.Core.Path.{_≡_, refl, sym, ap, _∙_}
 use mathlib.Core.Bool.{true, false}
 use mathlib.Core.List.{[], _∷_}
-use Prim.Native.Nat.{ℕ}
+use Prim.Native.Nat.{ℕ, _<_}
 use borrow.Author.Tests.{eq-eqb, ne-eqb}
 use Rattle.sets.specs.Mask.{bit}
-use Rattle.rules.specs.Book.{Book, SME, DME}
-use Rattle.rules.specs.Numbers.{Said, accepted, say, sayXY, givenPair, Conflict, between, firstOf, rbConflicts, sbConflicts, isAccepted}
+use Rattle.chains.specs.Closure.{close}
+use Rattle.rules.specs.Book.{Book, SME, DME, RB, SB}
+use Rattle.rules.specs.Trade.{mixed, subjectGroup, roleGroup}
+use Rattle.rules.specs.Numbers.{Said, accepted, say, sayXY, givenPair, between, firstOf, rbConflicts, sbConflicts, isAccepted}
 use Rattle.rules.specs.Numbers.{selfConstraint, alreadyDme, alreadySme, smeBetweenGroups, dmeBetweenGroups}
+use Rattle.rules.specs.Meaning.{Sized}
+use Rattle.trade.proofs.MixedLaws.{around}
 use Rattle.search.specs.declared.Found.{Found}
 use Rattle.search.specs.declared.Found.the-variants.{Pair, Nothing}
 use Rattle.search.specs.Pairs.{foundPair}
@@ -15,22 +19,47 @@ use Rattle.search.proofs.PairLaws.{given-pair, given-nothing}
 use Rattle.deeds.proofs.CascadeLaws.{pair-stands, pair-gives-way}
 use Rattle.deeds.proofs.ConflictLaws.{told, passed}
 
+-- 27 and 28: number n, where a search over some rows between xs and ys gave v.
+module _ (rows : ℕ → ℕ) (n xs ys : ℕ) {v : Found} (found : v ≡ foundPair (between rows xs ys)) where
+  -- A pair is told ..
+  pub between-told : {x y : ℕ} → v ≡ Pair x y → sayXY n x y ≡ givenPair n (between rows xs ys) accepted
+  between-told p = sym (given-pair _ n accepted found p)
+
+  -- .. and without one nothing is.
+  pub between-none : v ≡ Nothing → accepted ≡ givenPair n (between rows xs ys) accepted
+  between-none p = sym (given-nothing _ n accepted found p)
+
 module _ (d : Book) (a b : ℕ) where
-  -- 27 and 28: a search over table m, between the groups xs of a and ys of b that were found.
-  module _ (f : Conflict) (n m : ℕ) (group : ℕ → ℕ) (asks : (rest : Said) → f d a b rest ≡ givenPair n (between (d .row m) (group a) (group b)) rest)
-      {xs ys : ℕ} (of-a : xs ≡ group a) (of-b : ys ≡ group b) {v : Found} (found : v ≡ foundPair (between (d .row m) xs ys)) where
-    searched : v ≡ foundPair (between (d .row m) (group a) (group b))
-    searched = found ∙ (λ i. foundPair (between (d .row m) (of-a i) (of-b i)))
+  -- Where xs and ys are the groups of a and b, this is what 27 asks ..
+  pub sme-groups : {xs ys : ℕ} {out : Said} → xs ≡ roleGroup d a → ys ≡ roleGroup d b → out ≡ givenPair 27 (between (d .row SME) xs ys) accepted
+      → out ≡ firstOf (smeBetweenGroups ∷ []) d a b
+  unfolding firstOf smeBetweenGroups
+  sme-groups e f p = p ∙ (λ i. givenPair 27 (between (d .row SME) (e i) (f i)) accepted)
 
-    -- A pair is told ..
-    pub between-told : {x y : ℕ} → v ≡ Pair x y → sayXY n x y ≡ firstOf (f ∷ []) d a b
-    unfolding firstOf
-    between-told p = sym (asks accepted ∙ given-pair _ n accepted searched p)
+  -- .. also where they were made of the subject groups ..
+  pub sme-around : Sized d → a < 64 → b < 64 → {xs ys wide-xs wide-ys : ℕ} {out : Said} → xs ≡ subjectGroup d a → ys ≡ subjectGroup d b
+      → wide-xs ≡ close 64 (mixed d SB RB) xs → wide-ys ≡ close 64 (mixed d SB RB) ys
+      → out ≡ givenPair 27 (between (d .row SME) wide-xs wide-ys) accepted → out ≡ firstOf (smeBetweenGroups ∷ []) d a b
+  sme-around s ha hb e f p q =
+      sme-groups (p ∙ ap (close 64 (mixed d SB RB)) e ∙ around d s a ha) (q ∙ ap (close 64 (mixed d SB RB)) f ∙ around d s b hb)
 
-    -- .. and without one nothing is.
-    pub between-none : v ≡ Nothing → accepted ≡ firstOf (f ∷ []) d a b
-    unfolding firstOf
-    between-none p = sym (asks accepted ∙ given-nothing _ n accepted searched p)
+  -- .. and 28.
+  pub dme-groups : {xs ys : ℕ} {out : Said} → xs ≡ subjectGroup d a → ys ≡ subjectGroup d b → out ≡ givenPair 28 (between (d .row DME) xs ys) accepted
+      → out ≡ firstOf (dmeBetweenGroups ∷ []) d a b
+  unfolding firstOf dmeBetweenGroups
+  dme-groups e f p = p ∙ (λ i. givenPair 28 (between (d .row DME) (e i) (f i)) accepted)
+
+  -- 27 was asked by itself, and s is its answer: it stands ..
+  module _ {s : Said} (asked : s ≡ firstOf (smeBetweenGroups ∷ []) d a b) where
+    pub sme-stands : isAccepted s ≡ false → s ≡ firstOf (smeBetweenGroups ∷ dmeBetweenGroups ∷ []) d a b
+    unfolding firstOf smeBetweenGroups
+    sme-stands e = asked ∙ pair-stands 27 _ _ (sym (λ i. isAccepted (asked i)) ∙ e)
+
+    -- .. or it was silent, and 28 is asked.
+    pub dme-next : isAccepted s ≡ true → {out : Said} → out ≡ firstOf (dmeBetweenGroups ∷ []) d a b
+        → out ≡ firstOf (smeBetweenGroups ∷ dmeBetweenGroups ∷ []) d a b
+    unfolding firstOf smeBetweenGroups
+    dme-next e p = p ∙ pair-gives-way 27 _ _ (sym (λ i. isAccepted (asked i)) ∙ e)
 
   -- Kind 6. 20: a is b.
   pub rb-self : a ≡ b → say 20 ≡ firstOf rbConflicts d a b
@@ -71,17 +100,8 @@ module _ (d : Book) (a b : ℕ) where
       unfolding alreadySme
       sb-sme e = sme-asked (told d a b alreadySme _ _ _ (λ rest. refl) e)
 
-      -- Neither: 27 was asked by itself, and s is its answer.
-      module _ (apart : bit (d .row SME a) b ≡ false) {s : Said} (asked : s ≡ firstOf (smeBetweenGroups ∷ []) d a b) where
-        groups-asked : {out : Said} → out ≡ firstOf (smeBetweenGroups ∷ dmeBetweenGroups ∷ []) d a b → out ≡ firstOf sbConflicts d a b
-        unfolding alreadySme
-        groups-asked p = sme-asked (passed d a b alreadySme _ _ _ (λ rest. refl) apart p)
-
-        pub sb-sme-groups : isAccepted s ≡ false → s ≡ firstOf sbConflicts d a b
-        unfolding firstOf smeBetweenGroups
-        sb-sme-groups e = groups-asked (asked ∙ pair-stands 27 _ _ (sym (λ i. isAccepted (asked i)) ∙ e))
-
-        -- It was silent: 28 is asked.
-        pub sb-dme-groups : isAccepted s ≡ true → {out : Said} → out ≡ firstOf (dmeBetweenGroups ∷ []) d a b → out ≡ firstOf sbConflicts d a b
-        unfolding firstOf smeBetweenGroups
-        sb-dme-groups e p = groups-asked (p ∙ pair-gives-way 27 _ _ (sym (λ i. isAccepted (asked i)) ∙ e))
+      -- Neither: 27 and 28 are asked.
+      pub sb-groups : bit (d .row SME a) b ≡ false → {out : Said} → out ≡ firstOf (smeBetweenGroups ∷ dmeBetweenGroups ∷ []) d a b
+          → out ≡ firstOf sbConflicts d a b
+      unfolding alreadySme
+      sb-groups e p = sme-asked (passed d a b alreadySme _ _ _ (λ rest. refl) e p)

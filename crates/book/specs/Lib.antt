@@ -1,2 +1,1 @@
 pub mod Slice
-pub mod Places

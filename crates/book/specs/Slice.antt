@@ -6,6 +6,7 @@ use Prim.Native.Nat.{ℕ}
 use lib.Dec.{eqb}
 use lib.ListN.{length, getD}
 use Rattle.rules.specs.Book.{Book, bookWords, read}
+use Rattle.rules.specs.Meaning.{Formed}
 use Rattle.rules.specs.Requests.{setRow, addTo, takeFrom, setHead, setTable}
 
 abbrev pub words : List ℕ → ℕ → ℕ
@@ -17,6 +18,10 @@ tables l = read (words l)
 -- The slice is full: it has as many words as a book.
 abbrev pub Full : List ℕ → Type 0
 Full l = length l ≡ bookWords
+
+-- The slice is a well-formed book: full, and no word of it is bad. The scan finds it out; behind it functions may ask for it.
+abbrev pub WellFormed : List ℕ → Type 0
+WellFormed l = Full l × Formed (tables l)
 
 -- The slice was `before` and is `after`: it is full, and its tables became f of what they were.
 abbrev pub Became : List ℕ → List ℕ → (Book → Book) → Type 0

@@ -1,11 +1,10 @@
 // The words of the book on a lent slice: rows read and cells written by index. Where each word lies is known here alone.
 // Whoever calls these has seen that the slice is full; the tables are numbered as in document 01's list.
 ghost use mathlib.Core.Path.{_≡_};
-ghost use Prim.Native.Nat.{_≤_, _<_};
+ghost use Prim.Native.Nat.{_+_, _*_, _≤_, _<_};
 ghost use Rattle.sets.specs.Mask.{bit};
-ghost use Rattle.rules.specs.Book.{bookWords, headWords, tableCount, tableAt, placeOf, cellBase, cellOf, roleIn, subjectIn};
+ghost use Rattle.rules.specs.Book.{headWords, tableCount, tableAt, cellsAt, cellBase, cellOf, roleIn, subjectIn};
 ghost use Rattle.book.specs.Slice.{tables, Full, Became, withHead, withRow, withCell, withMember, withoutMember};
-ghost use Rattle.book.specs.Places.{placed};
 
 // How many words a book has.
 pub const WORDS: usize = 4676;
@@ -51,33 +50,20 @@ pub const ACTIVE: u64 = 7;
 // .. and the tasks of an order.
 pub const ORDERS: u64 = 8;
 
-// What a word is: one of the head, row r of a table, or the cell of an order and a task.
-pub enum Place {
-    Head(u64),
-    Row(u64, u64),
-    Cell(u64, u64),
+// Where row r of a table stands.
+pub fn row_at(table: u64, r: u64) -> u64
+    requires { ⌜ (table < tableCount) × (r < 64) ⌝ }
+    ensures { λ i. ⌜ i ≡ tableAt table + r ⌝ }
+{
+    HEAD + 64 * table + r
 }
 
-// What word i is.
-pub fn place_of(i: u64) -> Place
-    requires { ⌜ i < bookWords ⌝ }
-    ensures { λ p. ⌜ placed p ≡ placeOf i ⌝ }
+// Where the cell of an order and a task stands.
+pub fn cell_at(order: u64, task: u64) -> u64
+    requires { ⌜ (order < 64) × (task < 64) ⌝ }
+    ensures { λ i. ⌜ i ≡ cellsAt + 64 * order + task ⌝ }
 {
-    if i < HEAD {
-        return Place::Head(i);
-    }
-    if i < CELLS {
-        return Place::Row((i - HEAD) / 64, (i - HEAD) % 64);
-    }
-    Place::Cell((i - CELLS) / 64, (i - CELLS) % 64)
-}
-
-// Where the rows of a table begin.
-fn table_at(table: u64) -> u64
-    requires { ⌜ table < tableCount ⌝ }
-    ensures { λ v. ⌜ v ≡ tableAt table ⌝ }
-{
-    HEAD + 64 * table
+    CELLS + 64 * order + task
 }
 
 // A word of the head: the defined tasks, roles or subjects, or word 3.
@@ -93,7 +79,7 @@ pub fn row(book: &[u64], table: u64, r: u64) -> u64
     requires { ⌜ Full (now book) × (table < tableCount) × (r < 64) ⌝ }
     ensures { λ v. ⌜ v ≡ (tables (now (book .entry))) .row table r ⌝ }
 {
-    book[(table_at(table) + r) as usize]
+    book[row_at(table, r) as usize]
 }
 
 // Whether number i is in row r of a table.
@@ -109,7 +95,7 @@ pub fn cell(book: &[u64], order: u64, task: u64) -> u64
     requires { ⌜ Full (now book) × (order < 64) × (task < 64) ⌝ }
     ensures { λ v. ⌜ v ≡ (tables (now (book .entry))) .cell order task ⌝ }
 {
-    book[(CELLS + 64 * order + task) as usize]
+    book[cell_at(order, task) as usize]
 }
 
 // The executing role in a cell, plus 1; 0 for none.
@@ -147,7 +133,7 @@ pub fn set_row(book: &mut [u64], table: u64, r: u64, v: u64)
     requires { ⌜ Full (now book) × (table < tableCount) × (r < 64) ⌝ }
     ensures { λ _. ⌜ Became (now (book .entry)) (now (book .exit)) (withRow table r v) ⌝ }
 {
-    book[(table_at(table) + r) as usize] = v;
+    book[row_at(table, r) as usize] = v;
 }
 
 // The cell of an order and a task is v.
@@ -155,7 +141,7 @@ pub fn set_cell(book: &mut [u64], order: u64, task: u64, v: u64)
     requires { ⌜ Full (now book) × (order < 64) × (task < 64) ⌝ }
     ensures { λ _. ⌜ Became (now (book .entry)) (now (book .exit)) (withCell order task v) ⌝ }
 {
-    book[(CELLS + 64 * order + task) as usize] = v;
+    book[cell_at(order, task) as usize] = v;
 }
 
 // Number i joins row r of a table.

@@ -1,99 +1,96 @@
--- A loop over the 64 cells of an order, for any function g of the task that gives the new cell: kinds 12, 13 and 14 write with it.
--- The loop starts with none written, each turn writes one more, and after 64 turns all are.
+-- The loops over the cells of an order. Kinds 12 and 14 empty all 64: the loop starts with none emptied, each turn empties one more, and after 64 turns
+-- all are. Kind 13 stamps those of a hand: a cell stamped, and the rest of the hand after it, is the hand stamped.
 use mathlib.Core.Path.{_≡_, refl, sym, ap, _∙_}
 use mathlib.Core.Logic.{inr}
-use mathlib.Core.Bool.{Bool, true, false, _&&_}
+use mathlib.Core.Bool.{Bool, true, false, _&&_, _||_, not}
 use Prim.Native.Nat.{ℕ, _+_, _^_, _≤_, _<_}
 use native.Mathlib.Omega.{arith}
 use native.Mathlib.Decide.{decLt, ℕ-discrete}
 use lib.Dec.{eqb, ltb}
-use borrow.Author.Tests.{eqb-true, eq-eqb, ne-eqb, lt-ltb, le-ltb}
-use Rattle.sets.specs.Mask.{bit}
-use Rattle.sets.proofs.Logic.{and-fails-r}
-use Rattle.sets.proofs.MaskLaws.{bit-high}
+use borrow.Author.Tests.{eqb-true, eqb-false, eq-eqb, ne-eqb, lt-ltb, le-ltb}
+use Rattle.sets.specs.Mask.{bit, with, without}
+use Rattle.sets.specs.Search.{lowest}
+use Rattle.sets.proofs.Logic.{and-fails-r, or-none}
+use Rattle.sets.proofs.MaskLaws.{bit-or, bit-one, bit-none, bit-without}
+use Rattle.sets.proofs.MemberLaws.{lowest-lt, lowest-in, rest-with}
 use Rattle.rules.specs.Book.{Book, read}
 use Rattle.rules.specs.Requests.{stampedCell, stamped}
-use Rattle.rules.proofs.BookLaws.{read-no-cell}
+use Rattle.rules.proofs.BookLaws.{book-ext, read-no-cell}
 use Rattle.book.specs.Slice.{withCell}
-use Rattle.rules.proofs.BookLaws.{book-ext}
-use Rattle.cells.specs.Cells.{filledTo, filledAll, newCell}
+use Rattle.cells.specs.Cells.{emptiedTo, emptied, newCell}
 
 -- a choice by a test whose value is known
-choose : (s t : Bool) (x y : ℕ) → s ≡ t → _≡_ {A = ℕ} (elim s [ true ↦ x | false ↦ y ]) (elim t [ true ↦ x | false ↦ y ])
-choose s t x y e = ap (λ (z : Bool). elim z as (λ (w : Bool). ℕ) [ true ↦ x | false ↦ y ]) e
+choose : (s t : Bool) (x : ℕ) → s ≡ t → _≡_ {A = ℕ} (elim s [ true ↦ 0 | false ↦ x ]) (elim t [ true ↦ 0 | false ↦ x ])
+choose s t x e = ap (λ (z : Bool). elim z as (λ (w : Bool). ℕ) [ true ↦ 0 | false ↦ x ]) e
 
-module _ (d : Book) (p : ℕ) (g : ℕ → ℕ) where
+module _ (d : Book) (p : ℕ) where
   -- Before the first turn the book is as it was.
-  pub none-filled : d ≡ filledTo 0 d p g
-  none-filled = book-ext _ _ (λ i. refl) (λ n r. refl)
-      (λ q t. sym (choose (eqb q p && ltb t 0) false (g t) (d .cell q t) (and-fails-r (eqb q p) (ltb t 0) (le-ltb t 0 (omega arith)))))
+  pub none-emptied : d ≡ emptiedTo 0 d p
+  none-emptied = book-ext _ _ (λ i. refl) (λ n r. refl)
+      (λ q t. sym (choose (eqb q p && ltb t 0) false (d .cell q t) (and-fails-r (eqb q p) (ltb t 0) (le-ltb t 0 (omega arith)))))
 
-  -- The cell whose turn it is still has its old value.
-  pub not-yet-filled : (i : ℕ) → (filledTo i d p g) .cell p i ≡ d .cell p i
-  not-yet-filled i = choose (eqb p p && ltb i i) false (g i) (d .cell p i) (and-fails-r (eqb p p) (ltb i i) (le-ltb i i (omega arith)))
-
-  -- A turn writes one cell more.
-  pub more-filled : (i : ℕ) {before after : Book} → after ≡ withCell p i (g i) before → before ≡ filledTo i d p g → after ≡ filledTo (i + 1) d p g
-  more-filled i turn e =
-      turn
-      ∙ ap (λ (b : Book). withCell p i (g i) b) e
-      ∙ book-ext _ _ (λ j. refl) (λ n r. refl) (λ q t. go q t (eqb q p) (ℕ-discrete t i))
+  -- A turn empties one cell more.
+  pub more-emptied : (i : ℕ) {before after : Book} → after ≡ withCell p i 0 before → before ≡ emptiedTo i d p → after ≡ emptiedTo (i + 1) d p
+  more-emptied i turn e =
+      turn ∙ ap (withCell p i 0) e ∙ book-ext _ _ (λ j. refl) (λ n r. refl) (λ q t. go q t (eqb q p) (ℕ-discrete t i))
     where
       go : (q t : ℕ) (s : Bool) → Dec (t ≡ i)
-          → _≡_ {A = ℕ} (elim (s && eqb t i) [ true ↦ g i | false ↦ elim (s && ltb t i) [ true ↦ g t | false ↦ d .cell q t ] ])
-          (elim (s && ltb t (i + 1)) [ true ↦ g t | false ↦ d .cell q t ])
+          → _≡_ {A = ℕ} (elim (s && eqb t i) [ true ↦ 0 | false ↦ elim (s && ltb t i) [ true ↦ 0 | false ↦ d .cell q t ] ])
+          (elim (s && ltb t (i + 1)) [ true ↦ 0 | false ↦ d .cell q t ])
       go q t false k = refl
-      go q t true (yes e) =
-          choose (eqb t i) true (g i) _ (eq-eqb t i e) ∙ ap g (sym e) ∙ sym (choose (ltb t (i + 1)) true (g t) (d .cell q t) (lt-ltb t (i + 1) (omega arith)))
-      go q t true (no n) = choose (eqb t i) false (g i) _ (ne-eqb t i n) ∙ last (decLt t i)
+      go q t true (yes e) = choose (eqb t i) true _ (eq-eqb t i e) ∙ sym (choose (ltb t (i + 1)) true (d .cell q t) (lt-ltb t (i + 1) (omega arith)))
+      go q t true (no n) = choose (eqb t i) false _ (ne-eqb t i n) ∙ choose (ltb t i) (ltb t (i + 1)) (d .cell q t) (last (decLt t i))
         where
-          last : Dec (t < i) → _≡_ {A = ℕ} (elim (ltb t i) [ true ↦ g t | false ↦ d .cell q t ]) (elim (ltb t (i + 1)) [ true ↦ g t | false ↦ d .cell q t ])
-          last (yes l) = choose (ltb t i) (ltb t (i + 1)) (g t) (d .cell q t) (lt-ltb t i l ∙ sym (lt-ltb t (i + 1) (omega arith)))
-          last (no l) = choose (ltb t i) (ltb t (i + 1)) (g t) (d .cell q t) (le-ltb t i (omega arith) ∙ sym (le-ltb t (i + 1) (omega arith)))
+          last : Dec (t < i) → ltb t i ≡ ltb t (i + 1)
+          last (yes l) = lt-ltb t i l ∙ sym (lt-ltb t (i + 1) (omega arith))
+          last (no l) = le-ltb t i (omega arith) ∙ sym (le-ltb t (i + 1) (omega arith))
 
-  -- After 64 turns all cells are written, if past 63 the new cell is the old one.
-  pub all-filled : (i : ℕ) → 64 ≤ i → ((t : ℕ) → 64 ≤ t → g t ≡ d .cell p t) → filledTo i d p g ≡ filledAll d p g
-  all-filled i h past = book-ext _ _ (λ j. refl) (λ n r. refl) (λ q t. go q t (eqb q p) refl (decLt t i))
+-- After 64 turns all cells are empty: past task 63 a book of words has none.
+pub all-emptied : (w : ℕ → ℕ) (p i : ℕ) → 64 ≤ i → emptiedTo i (read w) p ≡ emptied (read w) p
+all-emptied w p i h = book-ext _ _ (λ j. refl) (λ n r. refl) (λ q t. go q t (eqb q p) (decLt t i))
+  where
+    go : (q t : ℕ) (s : Bool) → Dec (t < i)
+        → _≡_ {A = ℕ} (elim (s && ltb t i) [ true ↦ 0 | false ↦ (read w) .cell q t ]) (elim s [ true ↦ 0 | false ↦ (read w) .cell q t ])
+    go q t false k = refl
+    go q t true (yes l) = choose (ltb t i) true _ (lt-ltb t i l)
+    go q t true (no l) = choose (ltb t i) false _ (le-ltb t i (omega arith)) ∙ read-no-cell w q t (inr (omega arith))
+
+module _ (d : Book) (p bySubject e c : ℕ) where
+  -- The lowest of those left stamped, and then the rest, is all of them stamped ..
+  pub stamped-on : {left : ℕ} {whole : Book} → 0 < left → left < 2 ^ 64 → stamped d p left bySubject e c ≡ whole
+      → stamped (withCell p (lowest (bit left)) (newCell d p bySubject e c (lowest (bit left))) d) p (without left (lowest (bit left))) bySubject e c ≡ whole
+  unfolding stampedCell with
+  stamped-on {left} some fits all = book-ext _ _ (λ j. refl) (λ n r. refl) (λ q u. go q u (eqb q p) refl (eqb u t) refl) ∙ all
     where
-      go : (q t : ℕ) (s : Bool) → eqb q p ≡ s → Dec (t < i)
-          → _≡_ {A = ℕ} (elim (s && ltb t i) [ true ↦ g t | false ↦ d .cell q t ]) (elim s [ true ↦ g t | false ↦ d .cell q t ])
-      go q t false e k = refl
-      go q t true e (yes l) = choose (ltb t i) true (g t) (d .cell q t) (lt-ltb t i l)
-      go q t true e (no l) =
-          choose (ltb t i) false (g t) (d .cell q t) (le-ltb t i (omega arith)) ∙ ap (λ (x : ℕ). d .cell x t) (eqb-true q p e) ∙ sym (past t (omega arith))
+      t : ℕ
+      t = lowest (bit left)
 
--- Past task 63 a book of words has no cell.
-pub no-cell : (w : ℕ → ℕ) (p t : ℕ) → 64 ≤ t → 0 ≡ (read w) .cell p t
-no-cell w p t h = sym (read-no-cell w p t (inr h))
+      gone : bit (without left t) t ≡ false
+      gone =
+          let l = lowest-lt left some fits in
+          bit-without left t t l l ∙ and-fails-r (bit left t) _ (ap not (eq-eqb t t refl))
 
--- Kind 13's change, where newCell is the function of the task.
-module _ (d : Book) (p byRole bySubject e c : ℕ) where
-  -- A cell stamped by what was read of the two hands and of the book is the new one.
-  pub cell-stamped : (t : ℕ) {v old : ℕ} {inRole inSubject : Bool} → v ≡ stampedCell inRole inSubject e c old
-      → inRole ≡ bit byRole t → inSubject ≡ bit bySubject t → old ≡ d .cell p t → v ≡ newCell d p byRole bySubject e c t
-  cell-stamped t new f g h = new ∙ (λ i. stampedCell (f i) (g i) e c (h i))
+      other : (u : ℕ) → (t ≡ u → ⊥) → bit (without left t) u ≡ bit left u
+      other u n =
+          sym (ap (λ (m : ℕ). bit m u) (rest-with left some fits) ∙ bit-or (without left t) (2 ^ t) u
+          ∙ ap (λ (s : Bool). bit (without left t) u || s) (bit-one t u ∙ ne-eqb t u n) ∙ or-none (bit (without left t) u))
 
-  -- A turn stamps one cell more, which has its old value until then.
-  pub stamped-more : (i : ℕ) {before after : Book} → after ≡ withCell p i (newCell before p byRole bySubject e c i) before
-      → before ≡ filledTo i d p (newCell d p byRole bySubject e c) → after ≡ filledTo (i + 1) d p (newCell d p byRole bySubject e c)
-  stamped-more i {before} turn k =
-      turn
-      ∙ ap (λ (v : ℕ). withCell p i (stampedCell (bit byRole i) (bit bySubject i) e c v) before)
-      (ap (λ (b : Book). b .cell p i) k ∙ not-yet-filled d p (newCell d p byRole bySubject e c) i)
-      ∙ more-filled d p (newCell d p byRole bySubject e c) i refl k
+      go : (q u : ℕ) (s : Bool) → eqb q p ≡ s → (r : Bool) → eqb u t ≡ r
+          → stampedCell (s && bit (without left t) u) (bit bySubject u) e c (elim (s && r) [ true ↦ newCell d p bySubject e c t | false ↦ d .cell q u ])
+          ≡ stampedCell (s && bit left u) (bit bySubject u) e c (d .cell q u)
+      go q u false f r g = refl
+      go q u true f true g =
+          let z = eqb-true u t g in
+          let y = eqb-true q p f in
+          let inHand = ap (bit left) z ∙ lowest-in left some fits in
+          ap (λ (s : Bool). stampedCell s (bit bySubject u) e c (newCell d p bySubject e c t)) (ap (bit (without left t)) z ∙ gone)
+          ∙ sym (λ i. stampedCell (inHand i) (bit bySubject (z i)) e c (d .cell (y i) (z i)))
+      go q u true f false g =
+          ap (λ (s : Bool). stampedCell s (bit bySubject u) e c (d .cell q u)) (other u (λ z. eqb-false u t g (sym z)))
 
-  -- Past 63 no task is in a hand.
-  pub no-new-cell : byRole < 2 ^ 64 → (t : ℕ) → 64 ≤ t → newCell d p byRole bySubject e c t ≡ d .cell p t
+  -- .. until nobody is left: then nothing is stamped.
+  pub stamped-done : {whole : Book} → stamped d p 0 bySubject e c ≡ whole → d ≡ whole
   unfolding stampedCell
-  no-new-cell h t l = ap (λ (s : Bool). stampedCell s (bit bySubject t) e c (d .cell p t)) (bit-high 64 byRole t h l)
-
-  -- The order with all its cells new is the order stamped.
-  pub stamped-all : filledAll d p (newCell d p byRole bySubject e c) ≡ stamped d p byRole bySubject e c
-  unfolding stampedCell
-  stamped-all = book-ext _ _ (λ i. refl) (λ n r. refl) (λ q t. go q t (eqb q p) refl)
-    where
-      go : (q t : ℕ) (s : Bool) → eqb q p ≡ s
-          → _≡_ {A = ℕ} (elim s [ true ↦ newCell d p byRole bySubject e c t | false ↦ d .cell q t ])
-          (stampedCell (s && bit byRole t) (bit bySubject t) e c (d .cell q t))
-      go q t false k = refl
-      go q t true k = ap (λ (x : ℕ). stampedCell (bit byRole t) (bit bySubject t) e c (d .cell x t)) (sym (eqb-true q p k))
+  stamped-done all =
+      sym (book-ext _ _ (λ j. refl) (λ n r. refl) (λ q u.
+      ap (λ (t : Bool). stampedCell t (bit bySubject u) e c (d .cell q u)) (and-fails-r (eqb q p) (bit 0 u) (bit-none u)))) ∙ all

@@ -19,6 +19,11 @@ pub chain-turn : {E : Relation} → ((j k : ℕ) → E j k → E k j) → {i j :
 chain-turn s stay = stay
 chain-turn s (more {j = j} {k = k} c e) = chain-join (more stay (s j k e)) (chain-turn s c)
 
+-- A chain from one that has no step stays there.
+pub chain-alone : {E : Relation} {i j : ℕ} → ((k : ℕ) → E i k → ⊥) → Chain E i j → i ≡ j
+chain-alone f stay = refl
+chain-alone {E} {i} f (more {k = k} c e) = absurd (f k (subst (λ (x : ℕ). E x k) (sym (chain-alone f c)) e))
+
 -- A step of E, or one of the two between a and b.
 pub data Tied (E : Relation) (a b : ℕ) : ℕ → ℕ → Type 0 where
   old : {j k : ℕ} → E j k → Tied E a b j k

@@ -6,14 +6,13 @@
 use mathlib.Core.Path.{_≡_, refl, sym, ap, _∙_, subst}
 use mathlib.Core.Logic.{inl, inr}
 use mathlib.Core.Bool.{Bool, true, false, _&&_, true≢false}
-use Prim.Native.Nat.{ℕ, suc, _^_, _<_}
+use Prim.Native.Nat.{ℕ, suc, _<_}
 use native.Mathlib.Omega.{arith}
 use lib.Dec.{eqb}
 use lib.Bits.{bitAnd}
-use borrow.Author.Tests.{eqb-true, eq-eqb}
-use Rattle.sets.specs.Mask.{bit, only}
+use Rattle.sets.specs.Mask.{bit}
 use Rattle.sets.proofs.Logic.{not-both}
-use Rattle.sets.proofs.MaskLaws.{in-both, both-out, in-one, one-out, joined-in, joined-out, zero-none}
+use Rattle.sets.proofs.MaskLaws.{in-both, both-out}
 use Rattle.chains.specs.Relation.{Relation, In, Step, Chain}
 use Rattle.chains.proofs.RelationLaws.{chain-join, chain-turn}
 use Rattle.rules.specs.Book.{Book, roles, subjects, SME, DME, active, orders, roleIn, subjectIn}
@@ -22,7 +21,7 @@ use Rattle.rules.specs.Numbers.{heldBy, heldSme, heldDme, heldConflicts, confli
 use Rattle.rules.specs.Meaning.{Sized, Symmetric, Apart, Both, HandsApart, OneValue, CellWord, Sound}
 use Rattle.rules.proofs.Exactly.{Exactly, exactly-and, exactly-eqb, unless-holds}
 use Rattle.rules.proofs.ChangeLaws.{unstamped}
-use Rattle.rules.proofs.TradeLaws.{step-to, Shows, subject-group, role-group}
+use Rattle.rules.proofs.TradeLaws.{Shows, subject-group, role-group, Holds, held-shows}
 use Rattle.demands.proofs.Tables.{Sme, Dme, Excluding, SubjectBound, RoleBound, subject-role, role-turns, excluding-turns, excluding-apart}
 use Rattle.demands.proofs.Conflicts.{Silent, one-silent, more-silent, Exact, exact, silent-between}
 
@@ -140,20 +139,8 @@ module _ (d : Book) (sized : Sized d) (sound : Sound d) (a b c : ℕ) (ha : a < 
   subject-says = hand-says (subject-group d sized)
 
   -- The tasks of order b that c holds, as they are computed.
-  held-says : (x : ℕ) → Exactly (bit (heldBy d b c) x) (Step o b x × (subjectIn (d .cell b x) ≡ suc c))
-  unfolding heldBy
-  held-says x = record {
-    means = λ e. (let w = joined-out mine 64 (o b) x e in out (w .0) (w .1) (eqb (subjectIn (d .cell b (w .0))) (suc c)) refl (w .2));
-    holds = λ (i, e). joined-in mine 64 (o b) x x (step-to (sized .rows orders) b x i) i (rw (eq-eqb (subjectIn (d .cell b x)) (suc c) e) (in-one x));
-  }
-    where
-      mine : ℕ → ℕ
-      mine t = only (eqb (subjectIn (d .cell b t)) (suc c)) (2 ^ t)
-
-      out : (t : ℕ) → Step o b t → (s : Bool) → eqb (subjectIn (d .cell b t)) (suc c) ≡ s → In (only s (2 ^ t)) x
-          → Step o b x × (subjectIn (d .cell b x) ≡ suc c)
-      out t i true p q = subst (λ (y : ℕ). Step o b y × (subjectIn (d .cell b y) ≡ suc c)) (one-out t x q) (i, eqb-true (subjectIn (d .cell b t)) (suc c) p)
-      out t i false p q = absurd (zero-none x refl q)
+  held-says : (x : ℕ) → Exactly (bit (heldBy d b c) x) (Holds d b c x)
+  held-says x = held-shows d sized b .says c x hc
 
   -- the cells afterwards
   abbrev now : ℕ → ℕ → ℕ

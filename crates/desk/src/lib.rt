@@ -5,7 +5,7 @@ ghost use mathlib.Core.Path.{_≡_};
 ghost use Prim.Native.Nat.{_<_};
 ghost use Rattle.rules.specs.Book.{tableCount};
 ghost use Rattle.rules.specs.Requests.{rowOf};
-ghost use Rattle.book.specs.Slice.{tables, Full};
+ghost use Rattle.book.specs.Slice.{tables, WellFormed};
 ghost use Rattle.ask.specs.Arguments.{faultOf};
 ghost use Rattle.deeds.specs.Outcome.{Settled};
 ghost use Rattle.desk.specs.Guarantee.{ask, Answered};
@@ -24,7 +24,7 @@ fn staff_table(place: u64) -> u64
 
 // What the kind does, on a well-formed book and arguments that fit; what is no kind is refused.
 fn carry_out(book: &mut [u64], kind: u64, a: u64, b: u64, c: u64) -> Answer
-    requires { ⌜ Full (now book) × (faultOf (tables (now book)) (rowOf kind) a b c ≡ 0) ⌝ }
+    requires { ⌜ WellFormed (now book) × (faultOf (tables (now book)) (rowOf kind) a b c ≡ 0) ⌝ }
     ensures { λ r. ⌜ Settled (now (book .entry)) (now (book .exit)) (rowOf kind .deed) a b c r ⌝ }
 {
     match kind {

@@ -7,7 +7,7 @@ ghost use Prim.Native.Nat.{_<_};
 ghost use Rattle.sets.specs.Mask.{bit};
 ghost use Rattle.rules.specs.Trade.{subjectGroup, roleGroup};
 ghost use Rattle.rules.specs.Numbers.{roleOwnsBoth, subjectOwnsBoth, smeConflicts, dmeConflicts, firstOf};
-ghost use Rattle.book.specs.Slice.{tables, Full};
+ghost use Rattle.book.specs.Slice.{tables, Full, WellFormed};
 ghost use Rattle.answers.specs.Answers.{said};
 
 // 23: b lies in the subject group of a.
@@ -28,14 +28,16 @@ fn in_role_group(book: &[u64], a: u64, b: u64) -> bool
 
 // 25 and 26: a role, then a subject, owns both tasks.
 fn owned_together(book: &[u64], a: u64, b: u64) -> Answer
-    requires { ⌜ Full (now book) × (a < 64) × (b < 64) ⌝ }
+    requires { ⌜ WellFormed (now book) × (a < 64) × (b < 64) ⌝ }
     ensures { λ r. ⌜ said r ≡ firstOf (roleOwnsBoth ∷ subjectOwnsBoth ∷ []) (tables (now (book .entry))) a b ⌝ }
 {
-    let role = owners::lowest_owner_of_both(book, Owner::Role, a, b);
+    let xs = owners::owners_of(book, sets::alone(a));
+    let ys = owners::owners_of(book, sets::alone(b));
+    let role = owners::lowest_starter(book, Owner::Role, xs, ys);
     if role < 64 {
         return Answer::RoleOwnsBoth(role);
     }
-    let subject = owners::lowest_owner_of_both(book, Owner::Subject, a, b);
+    let subject = owners::lowest_starter(book, Owner::Subject, xs, ys);
     if subject < 64 {
         return Answer::SubjectOwnsBoth(subject);
     }
@@ -44,7 +46,7 @@ fn owned_together(book: &[u64], a: u64, b: u64) -> Answer
 
 // Kind 4: 20, 21, 23, 24, 25, 26.
 pub fn sme_conflict(book: &[u64], a: u64, b: u64) -> Answer
-    requires { ⌜ Full (now book) × (a < 64) × (b < 64) ⌝ }
+    requires { ⌜ WellFormed (now book) × (a < 64) × (b < 64) ⌝ }
     ensures { λ r. ⌜ said r ≡ firstOf smeConflicts (tables (now (book .entry))) a b ⌝ }
 {
     if a == b {

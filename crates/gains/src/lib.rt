@@ -9,7 +9,7 @@ ghost use Prim.Native.Nat.{_<_};
 ghost use Rattle.sets.specs.Mask.{bit};
 ghost use Rattle.rules.specs.Trade.{reach};
 ghost use Rattle.rules.specs.Numbers.{taskAssignment, roleAssignment, juniorConflicts, roleConflicts, firstOf};
-ghost use Rattle.book.specs.Slice.{tables, Full};
+ghost use Rattle.book.specs.Slice.{tables, Full, WellFormed};
 ghost use Rattle.gains.specs.Gains.{gainOf};
 ghost use Rattle.answers.specs.Answers.{said};
 
@@ -40,7 +40,7 @@ fn reaches(book: &[u64], a: u64, b: u64) -> bool
 
 // 32: among the subjects that own role b.
 fn subjects_conflict(book: &[u64], gain: Gain, a: u64, b: u64) -> Answer
-    requires { ⌜ Full (now book) × (a < 64) × (b < 64) ⌝ }
+    requires { ⌜ WellFormed (now book) × (a < 64) × (b < 64) ⌝ }
     ensures { λ r. ⌜ said r ≡ firstOf (roleAssignment (gainOf gain) ∷ []) (tables (now (book .entry))) a b ⌝ }
 {
     let found = owners::first_clash(book, Owner::Subject, b, gain_of(book, gain, a));
@@ -52,7 +52,7 @@ fn subjects_conflict(book: &[u64], gain: Gain, a: u64, b: u64) -> Answer
 
 // Kinds 8 and 9: 31 among b and its seniors, then 32.
 pub fn owners_conflict(book: &[u64], gain: Gain, a: u64, b: u64) -> Answer
-    requires { ⌜ Full (now book) × (a < 64) × (b < 64) ⌝ }
+    requires { ⌜ WellFormed (now book) × (a < 64) × (b < 64) ⌝ }
     ensures { λ r. ⌜ said r ≡ firstOf (taskAssignment (gainOf gain) ∷ roleAssignment (gainOf gain) ∷ []) (tables (now (book .entry))) a b ⌝ }
 {
     let found = owners::first_clash(book, Owner::Role, b, gain_of(book, gain, a));
@@ -64,7 +64,7 @@ pub fn owners_conflict(book: &[u64], gain: Gain, a: u64, b: u64) -> Answer
 
 // Kind 9: 29, 30, then 31 and 32.
 pub fn junior_conflict(book: &[u64], a: u64, b: u64) -> Answer
-    requires { ⌜ Full (now book) × (a < 64) × (b < 64) ⌝ }
+    requires { ⌜ WellFormed (now book) × (a < 64) × (b < 64) ⌝ }
     ensures { λ r. ⌜ said r ≡ firstOf juniorConflicts (tables (now (book .entry))) a b ⌝ }
 {
     if a == b {

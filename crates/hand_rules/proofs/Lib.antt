@@ -1,1 +1,4 @@
 pub mod HandLaws
+pub mod ApartLaws
+pub mod TogetherLaws
+pub mod OpenLaws

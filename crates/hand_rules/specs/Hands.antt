@@ -1,16 +1,27 @@
--- Rules 9 and 10 as they are looked for beside one task of an order: what its cell asks of the others.
-use mathlib.Core.Bool.{Bool, _&&_, _||_, not}
-use Prim.Native.Nat.{ℕ}
+-- Rules 9 and 10 as the audit looks for them: for rule 9 who holds what in an order, for rule 10 each group of an order from its lowest task.
+use mathlib.Core.Path.{_≡_}
+use mathlib.Core.Bool.{Bool, true, false, _&&_}
+use Prim.Native.Nat.{ℕ, suc, _<_}
 use lib.Dec.{eqb}
-use Rattle.sets.specs.Mask.{bit}
-use Rattle.rules.specs.Book.{Book, roleIn, subjectIn}
-use Rattle.rules.specs.Audit.{implies, handsApart, handsTogether}
-use Rattle.hand_rules.specs.declared.Hands.{Hands}
-use Rattle.hand_rules.specs.declared.Hands.the-variants.{Apart, Together}
+use lib.Bits.{bitAnd}
+use Rattle.sets.specs.Mask.{bit, with, only}
+use Rattle.sets.specs.Search.{lowest, all}
+use Rattle.rules.specs.Book.{Book, orders, roleIn, subjectIn}
+use Rattle.rules.specs.Trade.{subjectGroup, roleGroup}
+use Rattle.rules.specs.Requests.{isOpen}
+use Rattle.rules.specs.Audit.{implies}
 
--- v is no rival, or its cell in order p has another S than the hand, or the hand is nobody's
-abbrev pub otherHand : Book → ℕ → ℕ → ℕ → ℕ → Bool
-otherHand d p rivals hand v = not (bit rivals v && eqb hand (subjectIn (d .cell p v))) || eqb hand 0
+-- m is the set of the open orders
+abbrev pub Opens : Book → ℕ → Type 0
+Opens d m = (p : ℕ) → p < 64 → bit m p ≡ isOpen d p
+
+-- what becomes of v, the tasks that subject k holds, where task t is held by s; s is a subject plus 1, or 0 for nobody
+abbrev pub noted : ℕ → ℕ → ℕ → ℕ → ℕ
+noted s t k v = elim (eqb s (suc k)) [ true ↦ with v t | false ↦ v ]
+
+-- the set where u is its lowest member, else the empty set
+abbrev pub fromLowest : ℕ → ℕ → ℕ
+fromLowest set u = only (eqb (lowest (bit set)) u) set
 
 -- the same S in two cells where v is in the subject group, the same E where it is in the role group
 abbrev pub alike : ℕ → ℕ → ℕ → ℕ → ℕ → Bool
@@ -20,7 +31,12 @@ alike bySubject byRole v own other =
 abbrev pub sameHand : Book → ℕ → ℕ → ℕ → ℕ → ℕ → Bool
 sameHand d p bySubject byRole own v = alike bySubject byRole v own (d .cell p v)
 
--- rule 9, or rule 10 with the two groups of u, of order p, u and v
-abbrev pub handsKept : Book → Hands → ℕ → ℕ → ℕ → Bool
-handsKept d Apart = handsApart d
-handsKept d (Together bySubject byRole) = handsTogether d bySubject byRole
+-- order p without u asks nothing; where u is the lowest of a group in it, the others of that group go with u
+abbrev pub togetherIn : Book → ℕ → ℕ → ℕ → ℕ → Bool
+togetherIn d bySubject byRole u p =
+    implies (bit (d .row orders p) u)
+    (all 64 (sameHand d p (fromLowest (bitAnd (d .row orders p) bySubject) u) (fromLowest (bitAnd (d .row orders p) byRole) u) (d .cell p u)))
+
+-- so it is in every order, with the two groups of u
+unfoldable pub boundTogether : Book → ℕ → Bool
+boundTogether d u = all 64 (togetherIn d (subjectGroup d u) (roleGroup d u) u)

@@ -1,32 +1,106 @@
-// The audit's rules 9 and 10, over the cells of the open orders, each of one task u.
-// An order without u asks nothing, so none of its cells is read; u's groups are made once for all orders, by the caller.
+// The audit's rules 9 and 10, over the cells of the open orders. For rule 9 who holds what is found first, order by order; for
+// rule 10 the groups are, task by task, and each is looked at once, from its lowest task in an order.
 ghost use mathlib.Core.Path.{_≡_};
-ghost use Prim.Native.Nat.{_<_};
+ghost use mathlib.Core.Bool.{false, not};
+ghost use Prim.Native.Nat.{ℕ, _≤_, _<_};
+ghost use lib.ListN.{length, getD};
 ghost use Rattle.sets.specs.Search.{all};
-ghost use Rattle.rules.specs.Audit.{inOrder, inOrders};
-ghost use Rattle.book.specs.Slice.{tables, Full};
-ghost use Rattle.hand_rules.specs.Hands.{alike, otherHand, sameHand, handsKept};
+ghost use Rattle.rules.specs.Book.{SME, DME};
+ghost use Rattle.rules.specs.Trade.{mixed};
+ghost use Rattle.rules.specs.Numbers.{heldBy};
+ghost use Rattle.rules.specs.Audit.{pairFree, broken};
+ghost use Rattle.book.specs.Slice.{words, tables, Full, WellFormed};
+ghost use Rattle.hand_rules.specs.Hands.{Opens, noted, fromLowest, alike, sameHand, togetherIn, boundTogether};
 
-// What is asked of the hands in u's cell and in those beside it: rule 9, or rule 10 with u's subject group and role group.
-pub enum Hands {
-    Apart,
-    Together(u64, u64),
+// The open orders, those that have a task, as a set.
+fn open_orders(book: &[u64]) -> u64
+    requires { ⌜ Full (now book) ⌝ }
+    ensures { λ v. ⌜ Opens (tables (now (book .entry))) v ⌝ }
+{
+    search::meeting(book, book::ORDERS, !0, !0)
 }
 
-// Rule 9 beside u, whose S is `hand`: no rival has the same S above 0.
-fn is_alone(book: &[u64], order: u64, rivals: u64, hand: u64) -> bool
-    requires { ⌜ Full (now book) × (order < 64) ⌝ }
-    ensures { λ r. ⌜ r ≡ all 64 (otherHand (tables (now (book .entry))) order rivals hand) ⌝ }
+// Task t is noted as held by the subject of its cell, which is given plus 1; 0 is nobody.
+fn note(held: &mut [u64; 64], s: u64, t: u64)
+    requires { ⌜ (length (now held) ≡ 64) × (s ≤ 64) × (t < 64) ⌝ }
+    ensures { λ _. ⌜ (length (now (held .exit)) ≡ 64) × ((k : ℕ) → words (now (held .exit)) k ≡ noted s t k (words (now (held .entry)) k)) ⌝ }
 {
-    if hand == 0 {
+    if s == 0 {
+        return;
+    }
+    let i = (s - 1) as usize;
+    held[i] = sets::add(held[i], t);
+}
+
+// The tasks of the order that each subject holds, side by side.
+fn held_in(book: &[u64], order: u64) -> [u64; 64]
+    requires { ⌜ WellFormed (now book) × (order < 64) ⌝ }
+    ensures { λ v. ⌜ ((s : ℕ) → s < 64 → getD v s 0 ≡ heldBy (tables (now (book .entry))) order s) ⌝ }
+{
+    let mut held = [0u64; 64];
+    let mut left = book::row(book, book::ORDERS, order);
+    while left != 0 {
+        let t = sets::lowest(left);
+        note(&mut held, book::subject_in(book::cell(book, order, t)), t);
+        left = sets::rest(left);
+    }
+    held
+}
+
+// Whether no task of the set excludes one of the set.
+fn is_pair_free(book: &[u64], set: u64) -> bool
+    requires { ⌜ Full (now book) ⌝ }
+    ensures { λ r. ⌜ r ≡ pairFree (mixed (tables (now (book .entry))) SME DME) set ⌝ }
+{
+    let mut left = set;
+    while left != 0 {
+        let rivals = trade::mixed_row(book, book::SME, book::DME, sets::lowest(left));
+        if sets::meets(rivals, set) {
+            return false;
+        }
+        left = sets::rest(left);
+    }
+    true
+}
+
+// Rule 9 in one order: no subject holds a task of it that excludes one that it holds too. Who is undefined holds nothing, and without tasks
+// nobody does.
+fn is_apart_in(book: &[u64], order: u64) -> bool
+    requires { ⌜ WellFormed (now book) × (order < 64) ⌝ }
+    ensures { λ r. ⌜ r ≡ all 64 (λ s. pairFree (mixed (tables (now (book .entry))) SME DME) (heldBy (tables (now (book .entry))) order s)) ⌝ }
+{
+    if book::row(book, book::ORDERS, order) == 0 {
         return true;
     }
-    for v in 0..64 {
-        if sets::has(rivals, v) & (hand == book::subject_in(book::cell(book, order, v))) {
+    let held = held_in(book, order);
+    let mut left = book::head(book, book::SUBJECTS);
+    while left != 0 {
+        if !is_pair_free(book, held[sets::lowest(left) as usize]) {
+            return false;
+        }
+        left = sets::rest(left);
+    }
+    true
+}
+
+// Rule 9, in every order.
+pub fn are_apart(book: &[u64]) -> bool
+    requires { ⌜ WellFormed (now book) ⌝ }
+    ensures { λ r. ⌜ r ≡ not (broken (tables (now (book .entry))) 9) ⌝ }
+{
+    for order in 0..64 {
+        if !is_apart_in(book, order) {
             return false;
         }
     }
     true
+}
+
+// The set, where u is its lowest member; else nothing.
+fn from_lowest(set: u64, u: u64) -> u64
+    ensures { λ v. ⌜ v ≡ fromLowest set u ⌝ }
+{
+    if sets::lowest(set) == u { set } else { 0 }
 }
 
 // Rule 10 of two cells: the same S where v is in the subject group, the same E where it is in the role group.
@@ -43,46 +117,74 @@ fn is_together(book: &[u64], order: u64, subjects: u64, roles: u64, own: u64) ->
     requires { ⌜ Full (now book) × (order < 64) ⌝ }
     ensures { λ r. ⌜ r ≡ all 64 (sameHand (tables (now (book .entry))) order subjects roles own) ⌝ }
 {
-    for v in 0..64 {
+    let mut left = subjects | roles;
+    while left != 0 {
+        let v = sets::lowest(left);
         if !is_alike(subjects, roles, v, own, book::cell(book, order, v)) {
             return false;
         }
+        left = sets::rest(left);
     }
     true
 }
 
-// The rule in one order; rivals and groups are cut to the order's tasks.
-fn is_kept_in(book: &[u64], hands: Hands, u: u64, order: u64) -> bool
+// Rule 10 of u and its groups in one order, where u is the lowest of a group; an order without u asks nothing.
+fn is_together_in(book: &[u64], subjects: u64, roles: u64, u: u64, order: u64) -> bool
     requires { ⌜ Full (now book) × (u < 64) × (order < 64) ⌝ }
-    ensures { λ r. ⌜ r ≡ inOrder (handsKept (tables (now (book .entry))) hands) (tables (now (book .entry))) u order ⌝ }
+    ensures { λ r. ⌜ r ≡ togetherIn (tables (now (book .entry))) subjects roles u order ⌝ }
 {
     let tasks = book::row(book, book::ORDERS, order);
     if !sets::has(tasks, u) {
         return true;
     }
-    let own = book::cell(book, order, u);
-    match hands {
-        Hands::Apart => is_alone(
-            book,
-            order,
-            tasks & trade::mixed_row(book, book::SME, book::DME, u),
-            book::subject_in(own),
-        ),
-        Hands::Together(subjects, roles) => {
-            is_together(book, order, tasks & subjects, tasks & roles, own)
-        }
-    }
+    is_together(
+        book,
+        order,
+        from_lowest(tasks & subjects, u),
+        from_lowest(tasks & roles, u),
+        book::cell(book, order, u),
+    )
 }
 
-// The rule in every order.
-pub fn is_kept(book: &[u64], hands: Hands, u: u64) -> bool
-    requires { ⌜ Full (now book) × (u < 64) ⌝ }
-    ensures { λ r. ⌜ r ≡ inOrders (handsKept (tables (now (book .entry))) hands) (tables (now (book .entry))) u ⌝ }
+// Rule 10 of u and its groups, in every open order.
+fn is_together_with(book: &[u64], opened: u64, subjects: u64, roles: u64, u: u64) -> bool
+    requires { ⌜ Full (now book) × Opens (tables (now book)) opened × (u < 64) ⌝ }
+    ensures { λ r. ⌜ r ≡ all 64 (togetherIn (tables (now (book .entry))) subjects roles u) ⌝ }
 {
-    for order in 0..64 {
-        if !is_kept_in(book, hands, u, order) {
+    let mut left = opened;
+    while left != 0 {
+        if !is_together_in(book, subjects, roles, u, sets::lowest(left)) {
             return false;
         }
+        left = sets::rest(left);
+    }
+    true
+}
+
+// Rule 10 of u: its groups are made once for all orders, the one from the other. Who is bound to nobody is a group alone.
+fn is_bound_together(book: &[u64], opened: u64, u: u64) -> bool
+    requires { ⌜ Full (now book) × Opens (tables (now book)) opened × (u < 64) ⌝ }
+    ensures { λ r. ⌜ r ≡ boundTogether (tables (now (book .entry))) u ⌝ }
+{
+    if trade::mixed_row(book, book::SB, book::RB, u) == 0 {
+        return true;
+    }
+    let subjects = trade::subject_group(book, u);
+    is_together_with(book, opened, subjects, trade::bound_with(book, subjects), u)
+}
+
+// Rule 10, where rule 2 is kept: then the groups of two tasks are the same or apart.
+pub fn are_together(book: &[u64]) -> bool
+    requires { ⌜ WellFormed (now book) × (broken (tables (now book)) 2 ≡ false) ⌝ }
+    ensures { λ r. ⌜ r ≡ not (broken (tables (now (book .entry))) 10) ⌝ }
+{
+    let opened = open_orders(book);
+    let mut left = book::head(book, book::TASKS);
+    while left != 0 {
+        if !is_bound_together(book, opened, sets::lowest(left)) {
+            return false;
+        }
+        left = sets::rest(left);
     }
     true
 }

@@ -1,2 +1,1 @@
 pub mod ActiveLaws
-pub mod HeldLaws

@@ -5,7 +5,7 @@ ghost use Prim.Native.Nat.{_<_};
 ghost use Rattle.rules.specs.Requests.{roleHand, subjectHand};
 ghost use Rattle.rules.specs.Numbers.{activeOwned, heldBy};
 ghost use Rattle.book.specs.Slice.{tables, Full};
-ghost use Rattle.hands.specs.Held.{heldNext};
+ghost use Rattle.hands.specs.Held.{heldRow};
 
 // The tasks of the order in the role group of a task.
 pub fn role_hand(book: &[u64], task: u64, order: u64) -> u64
@@ -23,15 +23,15 @@ pub fn subject_hand(book: &[u64], task: u64, order: u64) -> u64
     trade::subject_group(book, task) & book::row(book, book::ORDERS, order)
 }
 
-// The set `held` with task t, where t is one of the tasks and its cell has the subject.
-fn with_held(book: &[u64], order: u64, subject: u64, tasks: u64, t: u64, held: u64) -> u64
+// Task t alone, where its cell has the subject; else nothing.
+fn held_row(book: &[u64], order: u64, subject: u64, t: u64) -> u64
     requires { ⌜ Full (now book) × (order < 64) × (subject < 64) × (t < 64) ⌝ }
-    ensures { λ v. ⌜ v ≡ heldNext (tables (now (book .entry))) order subject tasks t held ⌝ }
+    ensures { λ v. ⌜ v ≡ heldRow (tables (now (book .entry))) order subject t ⌝ }
 {
-    if sets::has(tasks, t) & (book::subject_in(book::cell(book, order, t)) == subject + 1) {
-        sets::add(held, t)
+    if book::subject_in(book::cell(book, order, t)) == subject + 1 {
+        sets::alone(t)
     } else {
-        held
+        0
     }
 }
 
@@ -40,10 +40,11 @@ pub fn held_by(book: &[u64], order: u64, subject: u64) -> u64
     requires { ⌜ Full (now book) × (order < 64) × (subject < 64) ⌝ }
     ensures { λ v. ⌜ v ≡ heldBy (tables (now (book .entry))) order subject ⌝ }
 {
-    let tasks = book::row(book, book::ORDERS, order);
     let mut held = 0;
-    for t in 0..64 {
-        held = with_held(book, order, subject, tasks, t, held);
+    let mut left = book::row(book, book::ORDERS, order);
+    while left != 0 {
+        held = held | held_row(book, order, subject, sets::lowest(left));
+        left = sets::rest(left);
     }
     held
 }

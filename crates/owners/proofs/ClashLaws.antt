@@ -9,17 +9,17 @@ use Rattle.sets.specs.Mask.{bit, meet, only}
 use Rattle.sets.specs.Search.{lowest, paired}
 use Rattle.sets.proofs.Logic.{and-fails-l, not-both}
 use Rattle.sets.proofs.MaskLaws.{bit-none}
-use Rattle.sets.proofs.SearchLaws.{lowest-passes, lowest-some}
+use Rattle.sets.proofs.SearchLaws.{lowest-passes, lowest-some, lowest-end}
 use Rattle.rules.specs.Book.{Book, SME}
 use Rattle.rules.specs.Trade.{Owner, ownedTasks}
 use Rattle.rules.specs.Numbers.{clash, clashes}
 use Rattle.search.specs.declared.Found.the-variants.{Pair, Nothing}
 use Rattle.search.specs.Pairs.{foundPair}
-use Rattle.search.proofs.PairLaws.{lowest-none, found-at, nothing-at}
+use Rattle.search.proofs.PairLaws.{found-at, nothing-at}
 
 -- Who owns nothing has no clash.
 pub no-clash : (sme : ℕ → ℕ) (gain owned : ℕ) → owned ≡ 0 → 64 ≡ lowest (clash sme gain owned)
-no-clash sme gain owned e = lowest-none (clash sme gain owned) (λ t h. and-fails-l (bit owned t) (meet (sme t) gain) (ap (λ (m : ℕ). bit m t) e ∙ bit-none t))
+no-clash sme gain owned e = lowest-end 64 (clash sme gain owned) (λ t h. and-fails-l (bit owned t) (meet (sme t) gain) (ap (λ (m : ℕ). bit m t) e ∙ bit-none t))
 
 -- Owner b alone is asked; y is its lowest clash.
 module _ (d : Book) (start : Owner) (b gain y : ℕ) (clashing : y ≡ lowest (clash (d .row SME) gain (ownedTasks d (start b)))) where
@@ -54,7 +54,7 @@ module _ (d : Book) (start : Owner) (b gain y : ℕ) (clashing : y ≡ lowest (c
   -- It has none: there is no pair.
   pub no-own-clash : 64 ≤ y → Nothing ≡ foundPair (clashes d start (eqb b) gain)
   unfolding asked
-  no-own-clash h = nothing-at asked (lowest-none (paired asked) (λ o l. go o (eqb b o) refl))
+  no-own-clash h = nothing-at asked (lowest-end 64 (paired asked) (λ o l. go o (eqb b o) refl))
     where
       go : (o : ℕ) (t : Bool) → eqb b o ≡ t → paired asked o ≡ false
       go o false e = others o e

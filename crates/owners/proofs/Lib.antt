@@ -1,1 +1,3 @@
 pub mod ClashLaws
+pub mod RisingLaws
+pub mod RaisedLaws

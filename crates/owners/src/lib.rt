@@ -3,10 +3,11 @@ ghost use mathlib.Core.Path.{_≡_};
 ghost use Prim.Native.Nat.{_<_};
 ghost use Rattle.sets.specs.Search.{lowest};
 ghost use Rattle.rules.specs.Book.{SME};
-ghost use Rattle.rules.specs.Numbers.{ownsBoth, clash};
-ghost use Rattle.book.specs.Slice.{tables, Full};
+ghost use Rattle.rules.specs.Numbers.{clash};
+ghost use Rattle.book.specs.Slice.{tables, Full, WellFormed};
 ghost use Rattle.search.specs.Pairs.{foundPair};
 ghost use Rattle.owners.specs.Owners.{startOf, clashesBelow};
+ghost use Rattle.owners.specs.Rising.{above, Raised, ownersOf, starters, startsInBoth};
 
 // Whether numbers 0 to 63 stand for roles or for subjects.
 pub enum Owner {
@@ -25,34 +26,65 @@ pub fn start_of(book: &[u64], owner: Owner, o: u64) -> u64
     }
 }
 
-// Whether an owner owns tasks a and b.
-fn owns_both(book: &[u64], owner: Owner, a: u64, b: u64, o: u64) -> bool
-    requires { ⌜ Full (now book) × (a < 64) × (b < 64) × (o < 64) ⌝ }
-    ensures { λ v. ⌜ v ≡ ownsBoth (tables (now (book .entry))) (startOf (tables (now (book .entry))) owner) a b o ⌝ }
+// One round upwards: the set with roles that have a junior in it. What is added counts for those that are asked after it, so that a chain
+// which goes up by its numbers takes one round.
+fn raised(book: &[u64], set: u64) -> u64
+    requires { ⌜ Full (now book) ⌝ }
+    ensures { λ v. ⌜ Raised (tables (now (book .entry))) set v ⌝ }
 {
-    let mine = trade::owned_tasks(book, start_of(book, owner, o));
-    sets::has(mine, a) & sets::has(mine, b)
+    let mut all = set;
+    let mut left = book::head(book, book::ROLES) & !set;
+    while left != 0 {
+        all = all | search::meeting_row(book, book::JUNIORS, all, sets::lowest(left));
+        left = sets::rest(left);
+    }
+    all
 }
 
-// The lowest owner of tasks a and b; 64 where there is none.
-pub fn lowest_owner_of_both(book: &[u64], owner: Owner, a: u64, b: u64) -> u64
-    requires { ⌜ Full (now book) × (a < 64) × (b < 64) ⌝ }
-    ensures { λ v. ⌜ v ≡ lowest (ownsBoth (tables (now (book .entry))) (startOf (tables (now (book .entry))) owner) a b) ⌝ }
+// The roles of the set and all that reach one of them: round after round, until nothing is added.
+fn above(book: &[u64], set: u64) -> u64
+    requires { ⌜ Full (now book) ⌝ }
+    ensures { λ v. ⌜ v ≡ above (tables (now (book .entry))) set ⌝ }
 {
-    for o in 0..64 {
-        if owns_both(book, owner, a, b, o) {
-            return o;
+    let mut all = set;
+    let mut more = raised(book, set);
+    while more != all {
+        all = more;
+        more = raised(book, all);
+    }
+    all
+}
+
+// The roles that own one of the tasks.
+pub fn owners_of(book: &[u64], tasks: u64) -> u64
+    requires { ⌜ Full (now book) ⌝ }
+    ensures { λ v. ⌜ v ≡ ownersOf (tables (now (book .entry))) tasks ⌝ }
+{
+    above(
+        book,
+        search::meeting(book, book::TASKS_OF, book::head(book, book::ROLES), tasks),
+    )
+}
+
+// The owners that start with a role of the set.
+fn starters(book: &[u64], owner: Owner, set: u64) -> u64
+    requires { ⌜ Full (now book) ⌝ }
+    ensures { λ v. ⌜ v ≡ starters (tables (now (book .entry))) owner set ⌝ }
+{
+    match owner {
+        Owner::Role => set,
+        Owner::Subject => {
+            search::meeting(book, book::ROLES_OF, book::head(book, book::SUBJECTS), set)
         }
     }
-    64
 }
 
-// Whether t is one of the owned tasks, SME to one that would be gained.
-fn is_clash(book: &[u64], owned: u64, gain: u64, t: u64) -> bool
-    requires { ⌜ Full (now book) × (t < 64) ⌝ }
-    ensures { λ v. ⌜ v ≡ clash ((tables (now (book .entry))) .row SME) gain owned t ⌝ }
+// The lowest owner that starts with a role of each set; 64 where there is none.
+pub fn lowest_starter(book: &[u64], owner: Owner, xs: u64, ys: u64) -> u64
+    requires { ⌜ Full (now book) ⌝ }
+    ensures { λ v. ⌜ v ≡ lowest (startsInBoth (tables (now (book .entry))) owner xs ys) ⌝ }
 {
-    sets::has(owned, t) & sets::meets(book::row(book, book::SME, t), gain)
+    sets::lowest(starters(book, owner, xs) & starters(book, owner, ys))
 }
 
 // The lowest owned task that is SME to one that would be gained; 64 where there is none.
@@ -60,41 +92,34 @@ pub fn clash_of(book: &[u64], owned: u64, gain: u64) -> u64
     requires { ⌜ Full (now book) ⌝ }
     ensures { λ v. ⌜ v ≡ lowest (clash ((tables (now (book .entry))) .row SME) gain owned) ⌝ }
 {
-    for t in 0..64 {
-        if is_clash(book, owned, gain, t) {
+    let mut left = owned;
+    while left != 0 {
+        let t = sets::lowest(left);
+        if sets::meets(book::row(book, book::SME, t), gain) {
             return t;
         }
+        left = sets::rest(left);
     }
     64
 }
 
-// The lowest clash of one owner, if it owns role b; who doesn't is not asked.
-fn clash_at(book: &[u64], owner: Owner, b: u64, gain: u64, o: u64) -> u64
-    requires { ⌜ Full (now book) × (b < 64) × (o < 64) ⌝ }
-    ensures { λ v. ⌜ v ≡ lowest (clashesBelow (tables (now (book .entry))) owner b gain o) ⌝ }
-{
-    let start = start_of(book, owner, o);
-    let roles = trade::below(book, start);
-    if !sets::has(roles, b) {
-        return 64;
-    }
-    clash_of(
-        book,
-        trade::joined_rows(book, book::TASKS_OF, book::TASKS_OF, roles),
-        gain,
-    )
-}
-
 // Among the owners of role b: the lowest that owns a task SME to one it would gain, and the lowest such task.
 pub fn first_clash(book: &[u64], owner: Owner, b: u64, gain: u64) -> search::Found
-    requires { ⌜ Full (now book) × (b < 64) ⌝ }
+    requires { ⌜ WellFormed (now book) × (b < 64) ⌝ }
     ensures { λ v. ⌜ v ≡ foundPair (clashesBelow (tables (now (book .entry))) owner b gain) ⌝ }
 {
-    for o in 0..64 {
-        let t = clash_at(book, owner, b, gain, o);
-        if t < 64 {
-            return search::Found::Pair(o, t);
-        }
+    let clashing = search::meeting(book, book::SME, book::head(book, book::TASKS), gain);
+    if clashing == 0 {
+        return search::Found::Nothing;
     }
-    search::Found::Nothing
+    let holders = owners_of(book, clashing);
+    if holders == 0 {
+        return search::Found::Nothing;
+    }
+    let o = lowest_starter(book, owner, above(book, sets::alone(b)), holders);
+    if o >= 64 {
+        return search::Found::Nothing;
+    }
+    let owned = trade::owned_tasks(book, start_of(book, owner, o));
+    search::Found::Pair(o, sets::lowest(owned & clashing))
 }

@@ -9,7 +9,7 @@ ghost use Prim.Native.Nat.{_<_};
 ghost use Rattle.rules.specs.Book.{tableCount};
 ghost use Rattle.rules.specs.Requests.{relate};
 ghost use Rattle.rules.specs.Numbers.{openRefusal, stateRefusal, pairConflicts, firstOf};
-ghost use Rattle.book.specs.Slice.{tables, Full};
+ghost use Rattle.book.specs.Slice.{tables, Full, WellFormed};
 ghost use Rattle.answers.specs.Answers.{said};
 ghost use Rattle.deeds.specs.Outcome.{decide, Settled};
 
@@ -38,7 +38,7 @@ fn pair_refusal(book: &[u64], table: u64, a: u64, b: u64) -> Answer
 
 // What conflicts with the new pair, by the table. A table that has no pairs is refused.
 fn pair_conflict(book: &[u64], table: u64, a: u64, b: u64) -> Answer
-    requires { ⌜ Full (now book) × (a < 64) × (b < 64) ⌝ }
+    requires { ⌜ WellFormed (now book) × (a < 64) × (b < 64) ⌝ }
     ensures { λ r. ⌜ said r ≡ firstOf (pairConflicts table) (tables (now (book .entry))) a b ⌝ }
 {
     match table {
@@ -52,7 +52,7 @@ fn pair_conflict(book: &[u64], table: u64, a: u64, b: u64) -> Answer
 
 // The answer, on the book as it stands.
 fn judge_pair(book: &[u64], table: u64, a: u64, b: u64) -> Answer
-    requires { ⌜ Full (now book) × (table < tableCount) × (a < 64) × (b < 64) ⌝ }
+    requires { ⌜ WellFormed (now book) × (table < tableCount) × (a < 64) × (b < 64) ⌝ }
     ensures { λ r. ⌜ said r ≡ decide (tables (now (book .entry))) (relate table) a b 0 ⌝ }
 {
     let refusal = pair_refusal(book, table, a, b);
@@ -64,7 +64,7 @@ fn judge_pair(book: &[u64], table: u64, a: u64, b: u64) -> Answer
 
 // Kinds 4 to 7: both bits of the pair, where nothing stands in the way.
 pub fn relate(book: &mut [u64], table: u64, a: u64, b: u64) -> Answer
-    requires { ⌜ Full (now book) × (table < tableCount) × (a < 64) × (b < 64) ⌝ }
+    requires { ⌜ WellFormed (now book) × (table < tableCount) × (a < 64) × (b < 64) ⌝ }
     ensures { λ r. ⌜ Settled (now (book .entry)) (now (book .exit)) (relate table) a b 0 r ⌝ }
 {
     let answer = judge_pair(book, table, a, b);

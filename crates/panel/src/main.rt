@@ -236,7 +236,7 @@ fn welcome(paper: &mut [u8], terminal: bool) {
     if terminal {
         output::bytes(
             paper,
-            b"Towerplank 2.0.1: type requests; help lists them, quit or Ctrl-D ends the shift\n",
+            b"Towerplank 2.0.2: type requests; help lists them, quit or Ctrl-D ends the shift\n",
         );
     }
 }

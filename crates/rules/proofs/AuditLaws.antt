@@ -1,6 +1,6 @@
 -- Each rule's test holds exactly where its sentence over relations does, and the audit answers 0 exactly of the sound books.
 -- Rules that say the same of several tables, of roles and subjects, of groups and rows, are one law.
-use mathlib.Core.Path.{_≡_, refl}
+use mathlib.Core.Path.{_≡_, refl, _∙_}
 use mathlib.Core.Logic.{_⊎_, inl, inr}
 use mathlib.Core.Bool.{Bool, true, false, not}
 use Prim.Native.Nat.{ℕ, _+_, _^_, _≤_, _<_}
@@ -18,7 +18,7 @@ use Rattle.rules.specs.Audit.{rules, keptAt, broken, ruleCount, firstBro
 use Rattle.rules.specs.Meaning.{Tall, Sized, Formed, NoneOwn, Symmetric, Disjoint, NoCycle, PairFree, Both, HandsApart, Excludes}
 use Rattle.rules.specs.Meaning.{OwnedFrom, OwnersFree, Pairs, Sound, OfFour, Keeps}
 use Rattle.rules.proofs.Upto.{Upto, start, _next_, upto-at}
-use Rattle.rules.proofs.Exactly.{Exactly, itself, exactly-as, exactly-and, exactly-or, exactly-not, exactly-implies, exactly-eqb}
+use Rattle.rules.proofs.Exactly.{Exactly, itself, exactly-same, exactly-as, exactly-and, exactly-or, exactly-not, exactly-implies, exactly-eqb}
 use Rattle.rules.proofs.Exactly.{exactly-all, exactly-both, exactly-meet, Unless, unless-found, unless-as, unless-not}
 use Rattle.rules.proofs.NumberLaws.{given-out, given-in}
 use Rattle.rules.proofs.TradeLaws.{Shows, rows-show, step-from, step-to, subject-group, role-group, reach-shows, owner-shows, role-lt, subject-lt}
@@ -27,6 +27,11 @@ use Rattle.rules.proofs.WordLaws.{well-formed}
 -- A test of all numbers 0 to 63 says it of each.
 abbrev Always : (ℕ → Bool) → Type 0 → Type 0
 Always f P = Exactly (all 64 f) P
+
+-- A test is what fails where it fails.
+pub not-not : (t : Bool) → t ≡ not (not t)
+not-not true = refl
+not-not false = refl
 
 -- Rules 1 and 6: nothing is related to itself. Of rows these are the tasks in their own row, of `reach` the cycles.
 none-own : {R : Relation} {sets : ℕ → ℕ} → Shows R sets → ((i j : ℕ) → R i j → i < 64) → Always (notOwn sets) (NoneOwn R)
@@ -51,7 +56,7 @@ apart-sets {rows} {sets} t s =
     (exactly-all 64 _ (λ u h. exactly-not (exactly-meet (rows u) (sets u) (t .fits u) (s .fits u h))))
 
 -- A set that holds no pair of the rows.
-pair-free : {rows : ℕ → ℕ} (m : ℕ) (O : Subset) → Tall rows → m < 2 ^ 64 → ((t : ℕ) → Exactly (bit m t) (O t))
+pub pair-free : {rows : ℕ → ℕ} (m : ℕ) (O : Subset) → Tall rows → m < 2 ^ 64 → ((t : ℕ) → Exactly (bit m t) (O t))
     → Exactly (pairFree rows m) (PairFree (Step rows) O)
 unfolding pairFree
 pair-free {rows} m O t hm o =
@@ -151,6 +156,11 @@ module _ (d : Book) (s : Sized d) where
   pub broken-unless : (n : ℕ) → n ≤ ruleCount → Unless (broken d n) (Keeps d n)
   unfolding broken
   broken-unless n h = unless-not (keeps-exactly n h)
+
+  -- And a test that holds exactly where it is kept says that it is not broken.
+  pub tells-kept : (n : ℕ) → n ≤ ruleCount → {t : Bool} → Exactly t (Keeps d n) → t ≡ not (broken d n)
+  unfolding broken
+  tells-kept n h x = exactly-same x (keeps-exactly n h) ∙ not-not (all 64 (keptAt d n))
 
   -- The search for a broken rule finds one unless all ten are kept.
   pub none-broken : Unless (ltb (firstBroken d) (ruleCount + 1)) ((n : ℕ) → 1 ≤ n → n ≤ ruleCount → Keeps d n)

@@ -1,6 +1,6 @@
 -- The words of a book and its tables are the same thing: reading and writing undo each other.
 -- Every law of a word goes by its place, which is the head, a row of a table, or a cell; the places are divided once, here.
-use mathlib.Core.Path.{_≡_, refl, sym, ap, ap₂, _∙_, subst, fun-ext}
+use mathlib.Core.Path.{_≡_, sym, ap, ap₂, _∙_, subst, fun-ext}
 use mathlib.Core.Logic.{_⊎_, inl, inr}
 use mathlib.Core.Bool.{Bool, true, false, _&&_}
 use Prim.Native.Nat.{ℕ, _+_, _-_, _*_, _/_, _%_, _^_, _≤_, _<_}
@@ -8,10 +8,10 @@ use native.Mathlib.Omega.{arith}
 use native.Mathlib.Decide.{decLt}
 use lib.Dec.{ltb}
 use lib.Pow.{pow-pos}
-use borrow.Author.Tests.{lt-ltb, le-ltb, ltb-true, ltb-false}
+use borrow.Author.Tests.{lt-ltb, le-ltb}
 use Rattle.sets.proofs.Logic.{and-in, and-fails-l, and-fails-r}
 use Rattle.sets.proofs.MaskLaws.{only-yes, only-no}
-use Rattle.rules.specs.Book.{Book, bookWords, headWords, tableCount, cellsAt, tableAt, Place, inHead, inTable, inCell, placeOf, read, standing, write}
+use Rattle.rules.specs.Book.{Book, bookWords, headWords, tableCount, cellsAt, tableAt, inHead, inTable, inCell, placeOf, read, standing, write}
 use Rattle.rules.specs.Meaning.{Fits, Sized}
 
 -- Two books with the same head, rows and cells are equal.
@@ -57,28 +57,6 @@ place-cell p t l m =
     let y : (i - cellsAt) % 64 ≡ t = omega arith in
     unchosen _ _ (ltb i headWords) (le-ltb i headWords (omega arith)) ∙ unchosen _ _ (ltb i cellsAt) (le-ltb i cellsAt (omega arith))
     ∙ ap₂ inCell x y
-
--- Every word has its place in the head, in one of the nine tables, or in a cell.
-abbrev pub Lies : Place → Type 0
-Lies (inHead i) = i < headWords
-Lies (inTable n r) = (n < tableCount) × (r < 64)
-Lies (inCell p t) = (p < 64) × (t < 64)
-
-pub place-lies : (i : ℕ) → i < bookWords → Lies (placeOf i)
-unfolding placeOf
-place-lies i h = go (ltb i headWords) (ltb i cellsAt) refl refl
-  where
-    go : (s t : Bool) → ltb i headWords ≡ s → ltb i cellsAt ≡ t
-        → Lies (elim s [
-          | true ↦ inHead i
-          | false ↦ elim t [
-            | true ↦ inTable ((i - headWords) / 64) ((i - headWords) % 64)
-            | false ↦ inCell ((i - cellsAt) / 64) ((i - cellsAt) % 64)
-          ]
-        ])
-    go true t e f = ltb-true i headWords e
-    go false true e f = let l = ltb-true i cellsAt f in (omega arith, omega arith)
-    go false false e f = let l = ltb-false i cellsAt f in (omega arith, omega arith)
 
 -- What holds at every place holds of every word.
 pub every-place : (P : ℕ → Type 0) → ((i : ℕ) → i < headWords → P i) → ((n r : ℕ) → n < tableCount → r < 64 → P (tableAt n + r))

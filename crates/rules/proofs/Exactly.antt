@@ -28,6 +28,15 @@ itself t = record { means = λ e. e; holds = λ e. e }
 pub exactly-as : {t : Bool} {P Q : Type 0} → (P → Q) → (Q → P) → Exactly t P → Exactly t Q
 exactly-as f g x = record { means = λ e. f (x .means e); holds = λ q. x .holds (g q) }
 
+-- Two tests that hold exactly where one statement does are the same.
+pub exactly-same : {s t : Bool} {P : Type 0} → Exactly s P → Exactly t P → s ≡ t
+exactly-same {s} {t} {P} x y = go s t x y
+  where
+    go : (a b : Bool) → Exactly a P → Exactly b P → a ≡ b
+    go true b x y = sym (y .holds (x .means refl))
+    go false true x y = x .holds (y .means refl)
+    go false false x y = refl
+
 -- Both of two tests.
 pub exactly-and : {s t : Bool} {P Q : Type 0} → Exactly s P → Exactly t Q → Exactly (s && t) (P × Q)
 exactly-and {s} {t} x y = record {

@@ -1,1 +1,3 @@
 pub mod BadLaws
+pub mod BlockLaws
+pub mod FormedLaws

@@ -1,23 +1,21 @@
 -- How a nested search shows that it gives the pair of a test, and how a caller says the pair as an answer.
 use mathlib.Core.Path.{_≡_, refl, sym, ap, _∙_}
-use mathlib.Core.Bool.{Bool, true, false, _&&_, not}
+use mathlib.Core.Bool.{Bool, true, false, _&&_}
 use Prim.Native.Nat.{ℕ, _-_, _^_, _≤_, _<_}
 use native.Mathlib.Omega.{arith}
 use lib.Dec.{ltb}
 use lib.Bits.{bitAnd}
-use borrow.Author.Tests.{lt-ltb, ltb-false}
-use Rattle.sets.specs.Mask.{bit, only}
+use borrow.Author.Tests.{lt-ltb, le-ltb}
+use Rattle.sets.specs.Mask.{bit, without}
 use Rattle.sets.specs.Search.{lowest, paired}
-use Rattle.sets.proofs.MaskLaws.{bit-and, bit-none, bit-not}
-use Rattle.sets.proofs.SearchLaws.{lowest-most, lowest-same, none-found, searchRest, search-at, search-out}
+use Rattle.sets.proofs.Logic.{and-fails-l}
+use Rattle.sets.proofs.MaskLaws.{bit-and, bit-not}
+use Rattle.sets.proofs.SearchLaws.{lowest-passes, lowest-same, none-found}
+use Rattle.sets.proofs.MemberLaws.{lowest-lt, lowest-in, Seen, seen-on, seen-at}
 use Rattle.rules.specs.Numbers.{Said, sayXY, given, givenPair, outside, between}
 use Rattle.search.specs.declared.Found.{Found}
 use Rattle.search.specs.declared.Found.the-variants.{Pair, Nothing}
-use Rattle.search.specs.Pairs.{pairOf, foundPair, sayPair, partners}
-
--- Where nothing passes, a search comes to 64.
-pub lowest-none : (f : ℕ → Bool) → ((k : ℕ) → k < 64 → f k ≡ false) → 64 ≡ lowest f
-lowest-none f h = omega (arith, ltb-false (lowest f) 64 (none-found f h), lowest-most 64 0 f)
+use Rattle.search.specs.Pairs.{pairOf, foundPair, sayPair}
 
 module _ (f : ℕ → ℕ → Bool) where
   -- The pair is x, the lowest with a partner, and y, its lowest partner.
@@ -28,26 +26,10 @@ module _ (f : ℕ → ℕ → Bool) where
       ∙ sym (ap (λ (t : Bool). elim t as (λ (z : Bool). Found) [ true ↦ Pair x (lowest (f x)) | false ↦ Nothing ]) (lt-ltb x 64 h))
       ∙ ap (pairOf f) e
 
-  -- Both searches stand at a pair that passes: it is the one.
-  pub pair-at : (x y : ℕ) → x < 64 → y < 64 → searchRest (paired f) x 64 ≡ lowest (paired f) → searchRest (f x) y 64 ≡ lowest (f x) → f x y ≡ true
-      → Pair x y ≡ foundPair f
-  pair-at x y hx hy rows row t =
-      let p : y ≡ lowest (f x) = search-at (f x) hy row t in
-      let q : paired f x ≡ true = ap (λ (k : ℕ). ltb k 64) (sym p) ∙ lt-ltb y 64 hy in
-      found-at x y hx (search-at (paired f) hx rows q) p
-
-  -- x's search has come to its end: x has no partner.
-  pub no-partner : (x y : ℕ) → 64 ≤ y → y ≤ 64 → searchRest (f x) y 64 ≡ lowest (f x) → paired f x ≡ false
-  no-partner x y h k row = ap (λ (j : ℕ). ltb j 64) (sym (search-out (f x) h k row))
-
   -- There is no pair where none has a partner.
   pub nothing-at : 64 ≡ lowest (paired f) → Nothing ≡ foundPair f
   unfolding foundPair pairOf
   nothing-at e = ap (pairOf f) e
-
-  -- The search over x has come to its end: there is no pair.
-  pub nothing-found : (x : ℕ) → 64 ≤ x → x ≤ 64 → searchRest (paired f) x 64 ≡ lowest (paired f) → Nothing ≡ foundPair f
-  nothing-found x h k rows = nothing-at (search-out (paired f) h k rows)
 
   -- The pair said as an answer is the answer of the rules.
   pub pair-said : (n : ℕ) (rest : Said) → sayPair n (foundPair f) rest ≡ givenPair n f rest
@@ -67,22 +49,40 @@ module _ (f : ℕ → ℕ → Bool) where
   pub given-nothing : (n : ℕ) (rest : Said) {v : Found} → v ≡ foundPair f → v ≡ Nothing → givenPair n f rest ≡ rest
   given-nothing n rest e p = sym (pair-said n rest) ∙ ap (λ (w : Found). sayPair n w rest) (sym e ∙ p)
 
+-- A search that begins at the lowest member of the set finds it at once.
+pub at-once : (m : ℕ) {y : ℕ} {t : Bool} → y ≡ lowest (bit m) → y < 64 → t ≡ bit m y → t ≡ true
+at-once m e h p = p ∙ ap (bit m) e ∙ lowest-passes 64 0 (bit m) (omega arith)
+
+-- As a search over the members of xs shows the pair.
 module _ (rows : ℕ → ℕ) (xs ys : ℕ) where
-  -- The partners of x are those that pass with it.
-  pub partner-bit : (x y : ℕ) → bit (partners rows xs ys x) y ≡ between rows xs ys x y
-  partner-bit x y = go (bit xs x)
-    where
-      go : (t : Bool) → bit (only t (bitAnd (rows x) ys)) y ≡ (t && (bit (rows x) y && bit ys y))
-      go true = bit-and (rows x) ys y
-      go false = bit-none y
+  -- Who is not one of xs has no partner.
+  pub none-outside : (x : ℕ) → bit xs x ≡ false → paired (between rows xs ys) x ≡ false
+  none-outside x e = none-found (between rows xs ys x) (λ y h. and-fails-l (bit xs x) _ e)
 
-  -- What the test of a member of x's partners says, the test of the pair says.
-  pub partner-test : (x y : ℕ) {m : ℕ} {member t : Bool} → m ≡ partners rows xs ys x → member ≡ bit m y → member ≡ t → between rows xs ys x y ≡ t
-  partner-test x y e p q = sym (partner-bit x y) ∙ ap (λ (m : ℕ). bit m y) (sym e) ∙ sym p ∙ q
+  -- Those left are of xs; x is the lowest of them, and y the lowest of ys in its row, or 64.
+  module _ {left x row y : ℕ} (some : 0 < left) (fits : left < 2 ^ 64) (inside : (k : ℕ) → bit left k ≡ true → bit xs k ≡ true)
+      (at : x ≡ lowest (bit left)) (read : row ≡ rows x) (end : y ≡ lowest (bit (bitAnd row ys))) where
+    -- y is x's lowest partner,
+    partner : y ≡ lowest (between rows xs ys x)
+    partner =
+        end
+        ∙ ap (λ (m : ℕ). lowest (bit (bitAnd m ys))) read
+        ∙ lowest-same _ (between rows xs ys x) (λ v h. bit-and (rows x) ys v ∙ sym (ap (λ (t : Bool). t && (bit (rows x) v && bit ys v))
+        (inside x (ap (bit left) at ∙ lowest-in left some fits))))
 
-  -- One without partners is not paired.
-  pub none-paired : (x : ℕ) → partners rows xs ys x ≡ 0 → paired (between rows xs ys) x ≡ false
-  none-paired x e = none-found (between rows xs ys x) (λ y h. sym (partner-bit x y) ∙ ap (λ (m : ℕ). bit m y) e ∙ bit-none y)
+    -- and says so whether x has one
+    has : {t : Bool} → ltb y 64 ≡ t → paired (between rows xs ys) (lowest (bit left)) ≡ t
+    has e = ap (paired (between rows xs ys)) (sym at) ∙ ap (λ (k : ℕ). ltb k 64) (sym partner) ∙ e
+
+    -- x has a partner: the pair is found
+    pub pair-at : y < 64 → Seen (paired (between rows xs ys)) false left → Pair x y ≡ foundPair (between rows xs ys)
+    pair-at h seen =
+        let f = between rows xs ys in
+        found-at f x y (omega (arith, lowest-lt left some fits)) (at ∙ seen-at (paired f) some fits seen (has (lt-ltb y 64 h))) partner
+
+    -- x has none: on with the rest
+    pub pair-on : 64 ≤ y → Seen (paired (between rows xs ys)) false left → Seen (paired (between rows xs ys)) false (without left (lowest (bit left)))
+    pair-on h seen = seen-on (paired (between rows xs ys)) some fits seen (has (le-ltb y 64 h))
 
 -- The members of xs that are none of ys, as one set.
 pub outside-set : (xs ys : ℕ) → ys < 2 ^ 64 → lowest (bit (bitAnd xs (2 ^ 64 - 1 - ys))) ≡ lowest (outside xs ys)

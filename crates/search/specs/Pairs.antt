@@ -2,8 +2,6 @@
 use mathlib.Core.Bool.{Bool, true, false}
 use Prim.Native.Nat.{ℕ}
 use lib.Dec.{ltb}
-use lib.Bits.{bitAnd}
-use Rattle.sets.specs.Mask.{bit, only}
 use Rattle.sets.specs.Search.{lowest, paired}
 use Rattle.rules.specs.Numbers.{Said, sayXY}
 use Rattle.search.specs.declared.Found.{Found}
@@ -21,7 +19,3 @@ foundPair f = pairOf f (lowest (paired f))
 abbrev pub sayPair : ℕ → Found → Said → Said
 sayPair n (Pair x y) rest = sayXY n x y
 sayPair n Nothing rest = rest
-
--- the partners of x in its row: those of ys, where x is one of xs
-abbrev pub partners : (ℕ → ℕ) → ℕ → ℕ → ℕ → ℕ
-partners rows xs ys x = only (bit xs x) (bitAnd (rows x) ys)

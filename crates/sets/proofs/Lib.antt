@@ -2,3 +2,4 @@ pub mod Logic
 pub mod MaskLaws
 pub mod SearchLaws
 pub mod CountLaws
+pub mod MemberLaws

@@ -51,3 +51,8 @@ not-in t f = ap not (refute t f)
 pub not-out : (t : Bool) → not t ≡ true → t ≡ true → ⊥
 not-out true e f = true≢false (sym e)
 not-out false e f = true≢false (sym f)
+
+-- What is false adds nothing.
+pub or-none : (t : Bool) → (t || false) ≡ t
+or-none true = refl
+or-none false = refl

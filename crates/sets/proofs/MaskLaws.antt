@@ -171,6 +171,10 @@ bit-not (suc k) x (suc i) h l =
     let e : (2 ^ suc k - 1 - x) / 2 ≡ 2 ^ k - 1 - x / 2 = omega arith in
     bit-suc (2 ^ suc k - 1 - x) i ∙ ap (λ (y : ℕ). bit y i) e ∙ bit-not k (x / 2) i (omega arith) (omega arith) ∙ ap not (sym (bit-suc x i))
 
+-- All numbers below 64 are in the mask of all.
+pub in-full : (i : ℕ) → i < 64 → bit (2 ^ 64 - 1 - 0) i ≡ true
+in-full i l = bit-not 64 0 i (pow-pos 64) l ∙ ap not (bit-none i)
+
 pub without-lt : (m i : ℕ) → m < 2 ^ 64 → without m i < 2 ^ 64
 unfolding without
 without-lt m i h = omega (arith, and-le-l m (2 ^ 64 - 1 - 2 ^ i))
@@ -196,9 +200,12 @@ within-in m n h l f = eq-eqb (bitAnd m n) m (bit-ext 64 (bitAnd m n) m (and-lt 6
     go i true e = f i e ∙ sym e
     go i false e = sym e
 
-pub within-lt : (m n : ℕ) → n < 2 ^ 64 → within m n ≡ true → m < 2 ^ 64
+pub within-le : (m n : ℕ) → within m n ≡ true → m ≤ n
 unfolding within
-within-lt m n h e = let q = eqb-true (bitAnd m n) m e in omega (arith, lib.Bits.and-le-r m n)
+within-le m n e = let q = eqb-true (bitAnd m n) m e in omega (arith, lib.Bits.and-le-r m n)
+
+pub within-lt : (m n : ℕ) → n < 2 ^ 64 → within m n ≡ true → m < 2 ^ 64
+within-lt m n h e = omega (arith, within-le m n e)
 
 -- Two sets that meet have a common member.
 pub meet-in : (m n i : ℕ) → bit m i ≡ true → bit n i ≡ true → meet m n ≡ true

@@ -97,6 +97,14 @@ none-passes f e k h = refute (f k) (λ p. not-both (ltb (lowest f) 64) (lt-ltb _
 pub none-found : (f : ℕ → Bool) → ((k : ℕ) → k < 64 → f k ≡ false) → ltb (lowest f) 64 ≡ false
 none-found f h = refute _ (λ e. let l = ltb-true (lowest f) 64 e in not-both (f (lowest f)) (lowest-passes 64 0 f l) (h (lowest f) l))
 
+-- Whatever its length, a search in which nothing passes comes to its end.
+pub lowest-end : (n : ℕ) (f : ℕ → Bool) → ((k : ℕ) → k < n → f k ≡ false) → n ≡ lowestFrom n 0 f
+lowest-end n f none = go (decLt (lowestFrom n 0 f) n) (lowest-most n 0 f)
+  where
+    go : Dec (lowestFrom n 0 f < n) → lowestFrom n 0 f ≤ 0 + n → n ≡ lowestFrom n 0 f
+    go (yes h) m = absurd (not-both _ (lowest-passes n 0 f (omega arith)) (none _ h))
+    go (no h) m = omega arith
+
 -- Where no pair passes, none is found; where none is found, no pair passes.
 pub no-pair : (f : ℕ → ℕ → Bool) → ltb (lowest (paired f)) 64 ≡ false → (u v : ℕ) → u < 64 → v < 64 → f u v ≡ false
 no-pair f e u v hu hv = none-passes (f u) (none-passes (paired f) e u hu) v hv

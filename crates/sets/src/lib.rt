@@ -58,14 +58,17 @@ pub fn count(set: u64) -> u64
     u64::count_ones(set) as u64
 }
 
-// The lowest member of the set; 64 where it has none.
+// The lowest member of the set, by the zero bits below it; 64 where it has none.
 pub fn lowest(set: u64) -> u64
     ensures { λ r. ⌜ r ≡ lowest (bit set) ⌝ }
 {
-    for i in 0..64 {
-        if has(set, i) {
-            return i;
-        }
-    }
-    64
+    u64::trailing_zeros(set) as u64
+}
+
+// The set without its lowest member. A loop that goes on with the rest visits each member once, from the lowest.
+pub fn rest(set: u64) -> u64
+    requires { ⌜ 0 < set ⌝ }
+    ensures { λ r. ⌜ r ≡ without set (lowest (bit set)) ⌝ }
+{
+    set & (set - 1)
 }

@@ -6,7 +6,7 @@ ghost use Prim.Native.Nat.{_<_};
 ghost use Rattle.rules.specs.Book.{tableCount};
 ghost use Rattle.rules.specs.Requests.{assign};
 ghost use Rattle.rules.specs.Numbers.{stateRefusal, assignConflicts, firstOf};
-ghost use Rattle.book.specs.Slice.{tables, Full};
+ghost use Rattle.book.specs.Slice.{tables, Full, WellFormed};
 ghost use Rattle.answers.specs.Answers.{said};
 ghost use Rattle.deeds.specs.Outcome.{decide, Settled};
 
@@ -23,7 +23,7 @@ fn assign_refusal(book: &[u64], table: u64, a: u64, b: u64) -> Answer
 
 // What conflicts, by the table: tasks of roles, juniors, roles of subjects. A table that nothing is assigned in is refused.
 fn assign_conflict(book: &[u64], table: u64, a: u64, b: u64) -> Answer
-    requires { ⌜ Full (now book) × (a < 64) × (b < 64) ⌝ }
+    requires { ⌜ WellFormed (now book) × (a < 64) × (b < 64) ⌝ }
     ensures { λ r. ⌜ said r ≡ firstOf (assignConflicts table) (tables (now (book .entry))) a b ⌝ }
 {
     match table {
@@ -36,7 +36,7 @@ fn assign_conflict(book: &[u64], table: u64, a: u64, b: u64) -> Answer
 
 // The answer, on the book as it stands.
 fn judge_assignment(book: &[u64], table: u64, a: u64, b: u64) -> Answer
-    requires { ⌜ Full (now book) × (table < tableCount) × (a < 64) × (b < 64) ⌝ }
+    requires { ⌜ WellFormed (now book) × (table < tableCount) × (a < 64) × (b < 64) ⌝ }
     ensures { λ r. ⌜ said r ≡ decide (tables (now (book .entry))) (assign table) a b 0 ⌝ }
 {
     let refusal = assign_refusal(book, table, a, b);
@@ -48,7 +48,7 @@ fn judge_assignment(book: &[u64], table: u64, a: u64, b: u64) -> Answer
 
 // Kinds 8 to 10: number a joins row b of the table, where nothing stands in the way.
 pub fn assign(book: &mut [u64], table: u64, a: u64, b: u64) -> Answer
-    requires { ⌜ Full (now book) × (table < tableCount) × (a < 64) × (b < 64) ⌝ }
+    requires { ⌜ WellFormed (now book) × (table < tableCount) × (a < 64) × (b < 64) ⌝ }
     ensures { λ r. ⌜ Settled (now (book .entry)) (now (book .exit)) (assign table) a b 0 r ⌝ }
 {
     let answer = judge_assignment(book, table, a, b);

@@ -1,6 +1,6 @@
 -- How the code's tests show those of the rules.
 use mathlib.Core.Path.{_≡_, sym, ap, ap₂, _∙_}
-use mathlib.Core.Bool.{Bool, true, false, _&&_, not}
+use mathlib.Core.Bool.{Bool, true, false, not}
 use Prim.Native.Nat.{ℕ, _≤_, _<_}
 use native.Mathlib.Omega.{arith}
 use native.Mathlib.Decide.{decLt}
@@ -12,15 +12,13 @@ use Rattle.sets.proofs.SearchLaws.{all-in, all-fails, lowest-passes, none-passe
 use Rattle.rules.specs.Numbers.{clash}
 use Rattle.rules.specs.Audit.{implies, twoSided, pairFree}
 
--- Rule 2 of a pair, as it is looked for: v is in u's row, and u is not in v's.
-pub two-sided-seen : (rows : ℕ → ℕ) (u v : ℕ) {there back t : Bool} → there ≡ bit (rows u) v → back ≡ bit (rows v) u → (there && not back) ≡ t
-    → twoSided rows u v ≡ not t
-two-sided-seen rows u v {there} {back} e f g = sym (ap₂ implies e f) ∙ go there back g
-  where
-    go : (p q : Bool) {t : Bool} → (p && not q) ≡ t → implies p q ≡ not t
-    go true true g = ap not g
-    go true false g = ap not g
-    go false q g = ap not g
+-- Rule 2 asks nothing of a task that is not in u's row ..
+pub not-asked : (rows : ℕ → ℕ) (u v : ℕ) → bit (rows u) v ≡ false → twoSided rows u v ≡ true
+not-asked rows u v e = ap (λ (t : Bool). implies t (bit (rows v) u)) e
+
+-- .. and of one that is, what the test of the pair turned round says.
+pub two-sided-seen : (rows : ℕ → ℕ) (u v : ℕ) {back t : Bool} → bit (rows u) v ≡ true → back ≡ bit (rows v) u → back ≡ t → twoSided rows u v ≡ t
+two-sided-seen rows u v there e f = ap₂ implies there (sym e ∙ f)
 
 -- A set holds no pair exactly where the search for a member that clashes with the set itself ends at 64.
 pub pair-free-seen : (rows : ℕ → ℕ) (m : ℕ) {x : ℕ} → x ≡ lowest (clash rows m m) → leb 64 x ≡ pairFree rows m

@@ -21,11 +21,12 @@ fn is_two_sided(book: &[u64], table: u64, u: u64) -> bool
     requires { ⌜ Full (now book) × (table < tableCount) × (u < 64) ⌝ }
     ensures { λ r. ⌜ r ≡ symmetric ((tables (now (book .entry))) .row table) u ⌝ }
 {
-    let row = book::row(book, table, u);
-    for v in 0..64 {
-        if sets::has(row, v) & !book::is_in_row(book, table, v, u) {
+    let mut left = book::row(book, table, u);
+    while left != 0 {
+        if !book::is_in_row(book, table, sets::lowest(left), u) {
             return false;
         }
+        left = sets::rest(left);
     }
     true
 }

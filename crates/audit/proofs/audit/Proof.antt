@@ -1,7 +1,12 @@
--- Each answer after those before it failed.
+-- Each answer after those before it failed; a book without a bad word is well-formed.
+use native.Mathlib.Omega.{arith}
 use borrow.Author.Tests.{eq-eqb, ne-eqb, lt-ltb, le-ltb}
+use Rattle.rules.specs.Book.{bookWords}
 use Rattle.rules.specs.Numbers.{given}
 use Rattle.rules.specs.Audit.{audit, audited}
+use Rattle.rules.specs.Meaning.{Fits}
+use Rattle.book.specs.Slice.{words}
+use Rattle.scan.proofs.FormedLaws.{scanned}
 use borrow.Author.Needs.{needs}
 use Rattle.audit.proofs.audit.Statement.{statement}
 use Rattle.audit.proofs.audit.Tie as tie
@@ -15,10 +20,14 @@ first-bad-requires c κs = search needs
 
 returns-2 : tie.Need-returns-2
 unfolding audited audit given
-returns-2 c = rw (eq-eqb _ _ (c .before .before .if1 .left), ← c .before .first-bad .ensures, lt-ltb _ _ (c .if2 .taken))
+returns-2 c =
+    rw (eq-eqb _ _ (c .before .before .if1 .left), ← c .before .first-bad .ensures, lt-ltb (c .before .first-bad .result) bookWords (omega arith))
 
 lowest-broken-requires : tie.Need-lowest-broken-requires
-lowest-broken-requires c κs = search needs
+lowest-broken-requires c κs =
+    let s = c .before .before .before .before .args in
+    let fits : Fits (words (s .book .now)) = λ i h. (c .before .before .before .shared-slice-known .given i) .fits in
+    scanned (s .book .now) (omega arith) fits (c .before .first-bad .ensures) (omega arith)
 
 returns-3 : tie.Need-returns-3
 unfolding audited audit given

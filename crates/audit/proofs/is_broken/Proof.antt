@@ -1,70 +1,39 @@
--- A test of all numbers: the rule is kept at those below x.
-use mathlib.Core.Path.{_≡_, refl, sym, ap, _∙_}
-use mathlib.Core.Bool.{true, not}
-use Prim.Native.Nat.{_-_, _≤_}
+-- The arm taken says which rule it is. Rule 10 lies above 2, so that 2 is kept.
+use mathlib.Core.Path.{sym, ap, _∙_}
+use mathlib.Core.Bool.{not}
 use native.Mathlib.Omega.{arith}
-use borrow.Author.Tests.{not-true, not-false}
-use Rattle.sets.specs.Search.{all}
-use Rattle.sets.proofs.SearchLaws.{all-on, all-fails, all-done}
-use Rattle.rules.specs.Audit.{keptAt, broken}
+use Rattle.rules.specs.Audit.{broken}
+use Rattle.rules.proofs.AuditLaws.{not-not}
 use Rattle.book.specs.Slice.{tables}
 use borrow.Author.Needs.{needs}
 use Rattle.audit.proofs.is_broken.Statement.{statement}
 use Rattle.audit.proofs.is_broken.Tie as tie
 
-abbrev Inv-loop : tie.InvT-loop
-Inv-loop book rule x₀ x = (x ≤ 64) × (all x (keptAt (tables book) rule) ≡ true)
+are-apart-requires : tie.Need-are-apart-requires
+are-apart-requires c κs = search needs
 
-abbrev μ-loop : tie.MeasureT-loop
-μ-loop book rule x₀ x = 64 - x
+are-together-requires : tie.Need-are-together-requires
+are-together-requires c κs = (search needs, c .before .before .pre .2 (omega (arith, c .match .keys2)))
 
-loop-holds : tie.Need-loop-holds Inv-loop μ-loop
-unfolding all
-loop-holds c = (omega arith, refl)
+is-kept-requires : tie.Need-is-kept-requires
+is-kept-requires c κs = (search needs, omega (arith, c .match .rest))
 
-is-kept-at-requires : tie.Need-is-kept-at-requires Inv-loop μ-loop
-is-kept-at-requires c κs = search needs
-
-returns : tie.Need-returns Inv-loop μ-loop
-unfolding broken
+returns : tie.Need-returns
 returns c =
-    let s = c .before .before .before .before .before .args in
-    let d = tables (s .book .now) in
-    sym
-    (ap not
-    (all-fails (keptAt d (s .rule)) {i = c .before .before .before .loop .x} 64 (omega arith)
-    (sym (c .before .is-kept-at .ensures) ∙ not-true _ (c .if1 .taken))))
+    let d = tables (c .before .before .before .args .book .now) in
+    rw (c .before .match .keys1) (ap not (c .are-apart .ensures) ∙ sym (not-not (broken d 9)))
 
-add-x : tie.Need-add-x Inv-loop μ-loop
-add-x c = search needs
-
-loop-less : tie.Need-loop-less Inv-loop μ-loop
-loop-less c = search needs
-
-loop-again : tie.Need-loop-again Inv-loop μ-loop
-loop-again c =
-    let s = c .before .before .before .before .before .args in (
-      omega arith,
-      all-on (keptAt (tables (s .book .now)) (s .rule)) (c .before .before .before .loop .inv .1)
-          (sym (c .before .is-kept-at .ensures) ∙ not-false _ (c .if1 .left)),
-    )
-
-returns-2 : tie.Need-returns-2 Inv-loop μ-loop
-unfolding broken
+returns-2 : tie.Need-returns-2
 returns-2 c =
+    let d = tables (c .before .before .before .args .book .now) in
+    rw (c .before .match .keys2) (ap not (c .are-together .ensures) ∙ sym (not-not (broken d 10)))
+
+returns-3 : tie.Need-returns-3
+returns-3 c =
     let s = c .before .before .before .args in
-    sym (ap not (all-done (keptAt (tables (s .book .now)) (s .rule)) 64 (omega arith) (omega arith) (c .before .loop .inv .1)))
+    ap not (c .is-kept .ensures) ∙ sym (not-not (broken (tables (s .book .now)) (s .rule)))
 
 pub is-broken-spec : {M : Type 1} → statement M
 is-broken-spec =
     tie.close
-    (tie.spec
-    Inv-loop
-    μ-loop
-    loop-holds
-    is-kept-at-requires
-    returns
-    add-x
-    loop-less
-    loop-again
-    returns-2)
+    (tie.spec are-apart-requires are-together-requires is-kept-requires returns returns-2 returns-3)

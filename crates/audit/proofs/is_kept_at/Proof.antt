@@ -18,17 +18,11 @@ row-requires c κs = search needs
 is-apart-requires : tie.Need-is-apart-requires
 is-apart-requires c κs = search needs
 
-role-group-requires : tie.Need-role-group-requires
-role-group-requires c κs = search needs
+is-sme-apart-requires : tie.Need-is-sme-apart-requires
+is-sme-apart-requires c κs = search needs
 
-is-apart-requires-2 : tie.Need-is-apart-requires-2
-is-apart-requires-2 c κs = search needs
-
-subject-group-requires : tie.Need-subject-group-requires
-subject-group-requires c κs = search needs
-
-is-apart-requires-3 : tie.Need-is-apart-requires-3
-is-apart-requires-3 c κs = search needs
+is-dme-apart-requires : tie.Need-is-dme-apart-requires
+is-dme-apart-requires c κs = search needs
 
 is-acyclic-requires : tie.Need-is-acyclic-requires
 is-acyclic-requires c κs = search needs
@@ -38,18 +32,6 @@ is-pair-free-requires c κs = search needs
 
 is-pair-free-requires-2 : tie.Need-is-pair-free-requires-2
 is-pair-free-requires-2 c κs = search needs
-
-is-kept-requires : tie.Need-is-kept-requires
-is-kept-requires c κs = search needs
-
-subject-group-requires-2 : tie.Need-subject-group-requires-2
-subject-group-requires-2 c κs = search needs
-
-role-group-requires-2 : tie.Need-role-group-requires-2
-role-group-requires-2 c κs = search needs
-
-is-kept-requires-2 : tie.Need-is-kept-requires-2
-is-kept-requires-2 c κs = search needs
 
 returns : tie.Need-returns
 unfolding keptAt rules
@@ -64,12 +46,12 @@ unfolding keptAt rules apart
 returns-3 c = rw (c .before .before .match .keys3, ← c .before .row .ensures) (c .is-apart .ensures)
 
 returns-4 : tie.Need-returns-4
-unfolding keptAt rules apart
-returns-4 c = rw (c .before .before .match .keys4, ← c .before .role-group .ensures) (c .is-apart2 .ensures)
+unfolding keptAt rules
+returns-4 c = rw (c .before .match .keys4) (c .is-sme-apart .ensures)
 
 returns-5 : tie.Need-returns-5
-unfolding keptAt rules apart
-returns-5 c = rw (c .before .before .match .keys5, ← c .before .subject-group .ensures) (c .is-apart3 .ensures)
+unfolding keptAt rules
+returns-5 c = rw (c .before .match .keys5) (c .is-dme-apart .ensures)
 
 returns-6 : tie.Need-returns-6
 unfolding keptAt rules
@@ -84,18 +66,7 @@ unfolding keptAt rules
 returns-8 c = rw (c .before .match .keys8) (c .is-pair-free2 .ensures)
 
 returns-9 : tie.Need-returns-9
-unfolding keptAt rules
-returns-9 c = rw (c .before .match .keys9) (c .is-kept .ensures)
-
-returns-10 : tie.Need-returns-10
-unfolding keptAt rules
-returns-10 c =
-    rw (c .before .before .before .match .keys10, ← c .before .before .subject-group2 .ensures, ← c .before .role-group2 .ensures) (c .is-kept2 .ensures)
-
-returns-11 : tie.Need-returns-11
-returns-11 c =
-    let s = c .before .before .args in
-    no-rule (tables (s .book .now)) (s .rule) (s .x) (c .match .rest)
+returns-9 c = let s = c .before .before .args in no-rule (tables (s .book .now)) (s .rule) (s .x) (search needs) (c .match .rest)
 
 pub is-kept-at-spec : {M : Type 1} → statement M
 is-kept-at-spec =
@@ -105,17 +76,11 @@ is-kept-at-spec =
     is-kept-in-four-requires-2
     row-requires
     is-apart-requires
-    role-group-requires
-    is-apart-requires-2
-    subject-group-requires
-    is-apart-requires-3
+    is-sme-apart-requires
+    is-dme-apart-requires
     is-acyclic-requires
     is-pair-free-requires
     is-pair-free-requires-2
-    is-kept-requires
-    subject-group-requires-2
-    role-group-requires-2
-    is-kept-requires-2
     returns
     returns-2
     returns-3
@@ -124,6 +89,4 @@ is-kept-at-spec =
     returns-6
     returns-7
     returns-8
-    returns-9
-    returns-10
-    returns-11)
+    returns-9)

@@ -1,7 +1,7 @@
 -- Each answer from what has been read by then.
 use mathlib.Core.Path.{sym, _∙_}
 use Rattle.book.specs.Slice.{tables}
-use Rattle.bindings.proofs.BindingLaws.{rb-self, rb-sme, rb-groups}
+use Rattle.bindings.proofs.BindingLaws.{sme-groups, rb-self, rb-sme, rb-groups}
 use borrow.Author.Needs.{needs}
 use Rattle.bindings.proofs.rb_conflict.Statement.{statement}
 use Rattle.bindings.proofs.rb_conflict.Tie as tie
@@ -19,15 +19,24 @@ returns-2 c =
     let s = c .before .before .before .before .args in
     rb-sme (tables (s .book .now)) (s .a) (s .b) (c .before .before .if1 .left) (sym (c .before .is-in-row .ensures) ∙ c .if2 .taken)
 
+role-group-requires : tie.Need-role-group-requires
+role-group-requires c κs = search needs
+
+role-group-requires-2 : tie.Need-role-group-requires-2
+role-group-requires-2 c κs = search needs
+
 sme-between-requires : tie.Need-sme-between-requires
 sme-between-requires c κs = search needs
 
 returns-3 : tie.Need-returns-3
 returns-3 c =
-    let s = c .before .before .before .before .before .args in
-    rb-groups (tables (s .book .now)) (s .a) (s .b) (c .before .before .before .if1 .left)
-    (sym (c .before .before .is-in-row .ensures) ∙ c .before .if2 .left) (c .sme-between .ensures)
+    let s = c .before .before .before .before .before .before .before .args in
+    let d = tables (s .book .now) in
+    rb-groups d (s .a) (s .b) (c .before .before .before .before .before .if1 .left)
+    (sym (c .before .before .before .before .is-in-row .ensures) ∙ c .before .before .before .if2 .left)
+    (sme-groups d (s .a) (s .b) (c .before .before .role-group .ensures) (c .before .role-group2 .ensures) (c .sme-between .ensures))
 
 pub rb-conflict-spec : {M : Type 1} → statement M
 rb-conflict-spec =
-    tie.close (tie.spec returns is-in-row-requires returns-2 sme-between-requires returns-3)
+    tie.close
+    (tie.spec returns is-in-row-requires returns-2 role-group-requires role-group-requires-2 sme-between-requires returns-3)

@@ -1,19 +1,10 @@
--- The pair that the search gives, between the two groups.
-use mathlib.Core.Path.{refl}
+-- The pair that the search gives.
 use Rattle.rules.specs.Book.{SME}
-use Rattle.rules.specs.Trade.{roleGroup}
-use Rattle.rules.specs.Numbers.{smeBetweenGroups}
 use Rattle.book.specs.Slice.{tables}
 use Rattle.bindings.proofs.BindingLaws.{between-told, between-none}
 use borrow.Author.Needs.{needs}
 use Rattle.bindings.proofs.sme_between.Statement.{statement}
 use Rattle.bindings.proofs.sme_between.Tie as tie
-
-role-group-requires : tie.Need-role-group-requires
-role-group-requires c κs = search needs
-
-role-group-requires-2 : tie.Need-role-group-requires-2
-role-group-requires-2 c κs = search needs
 
 first-pair-requires : tie.Need-first-pair-requires
 first-pair-requires c κs = search needs
@@ -25,31 +16,15 @@ enum-told : tie.Need-enum-told
 enum-told c = search needs
 
 returns : tie.Need-returns
-unfolding smeBetweenGroups
 returns c =
-    let s = c .before .before .before .before .before .before .before .args in
-    let d = tables (s .book .now) in
-    between-told d (s .a) (s .b) smeBetweenGroups 27 SME (roleGroup d) (λ rest. refl)
-    (c .before .before .before .before .before .role-group .ensures) (c .before .before .before .before .role-group2 .ensures)
-    (c .before .before .before .first-pair .ensures) (c .before .found .given .1)
+    let s = c .before .before .before .before .before .args in
+    between-told ((tables (s .book .now)) .row SME) 27 (s .xs) (s .ys) (c .before .before .before .first-pair .ensures) (c .before .found .given .1)
 
 returns-2 : tie.Need-returns-2
-unfolding smeBetweenGroups
 returns-2 c =
-    let s = c .before .before .before .before .before .before .args in
-    let d = tables (s .book .now) in
-    between-none d (s .a) (s .b) smeBetweenGroups 27 SME (roleGroup d) (λ rest. refl)
-    (c .before .before .before .before .role-group .ensures) (c .before .before .before .role-group2 .ensures)
-    (c .before .before .first-pair .ensures) (c .enum-told .given .1)
+    let s = c .before .before .before .before .args in
+    between-none ((tables (s .book .now)) .row SME) 27 (s .xs) (s .ys) (c .before .before .first-pair .ensures) (c .enum-told .given .1)
 
 pub sme-between-spec : {M : Type 1} → statement M
 sme-between-spec =
-    tie.close
-    (tie.spec
-    role-group-requires
-    role-group-requires-2
-    first-pair-requires
-    enum-known-found
-    enum-told
-    returns
-    returns-2)
+    tie.close (tie.spec first-pair-requires enum-known-found enum-told returns returns-2)

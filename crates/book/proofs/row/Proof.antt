@@ -1,6 +1,5 @@
 -- The word read is the one that the tables have there.
 use mathlib.Core.Path.{sym, ap, _∙_}
-use Prim.Native.Nat.{ℕ, _+_}
 use native.Mathlib.Omega.{arith}
 use Rattle.book.specs.Slice.{words}
 use Rattle.rules.proofs.BookLaws.{read-row}
@@ -8,11 +7,8 @@ use borrow.Author.Needs.{needs}
 use Rattle.book.proofs.row.Statement.{statement}
 use Rattle.book.proofs.row.Tie as tie
 
-table-at-requires : tie.Need-table-at-requires
-table-at-requires c κs = search needs
-
-add-result : tie.Need-add-result
-add-result c = search needs
+row-at-requires : tie.Need-row-at-requires
+row-at-requires c κs = search needs
 
 mul-result : tie.Need-mul-result
 mul-result c = search needs
@@ -24,8 +20,7 @@ returns : tie.Need-returns
 returns c =
     let s = c .before .before .before .args in
     let w = words (s .book .now) in
-    ap (λ (i : ℕ). w (i + s .r)) (c .before .table-at .ensures) ∙ sym (read-row w (s .table) (s .r) (omega arith) (omega arith))
+    ap w (c .before .row-at .ensures) ∙ sym (read-row w (s .table) (s .r) (omega arith) (omega arith))
 
 pub row-spec : {M : Type 1} → statement M
-row-spec =
-    tie.close (tie.spec table-at-requires add-result mul-result shared-slice-read-result returns)
+row-spec = tie.close (tie.spec row-at-requires mul-result shared-slice-read-result returns)

@@ -1,6 +1,6 @@
 -- One word is stored, and only that place of the tables changes.
 use mathlib.Core.Path.{ap, _∙_}
-use Prim.Native.Nat.{ℕ, _+_}
+use Prim.Native.Nat.{ℕ}
 use native.Mathlib.Omega.{arith}
 use lib.ListN.{set, length-set}
 use Rattle.book.specs.Slice.{tables, Full}
@@ -9,11 +9,8 @@ use borrow.Author.Needs.{needs}
 use Rattle.book.proofs.set_row.Statement.{statement}
 use Rattle.book.proofs.set_row.Tie as tie
 
-table-at-requires : tie.Need-table-at-requires
-table-at-requires c κs = search needs
-
-add-book : tie.Need-add-book
-add-book c = search needs
+row-at-requires : tie.Need-row-at-requires
+row-at-requires c κs = search needs
 
 mul-book : tie.Need-mul-book
 mul-book c = search needs
@@ -30,10 +27,8 @@ returns c =
     let l = s .book .now in
     let full : Full l = omega arith in (
       simp length-set full,
-      ap (λ (i : ℕ). tables (set l (i + s .r) (s .v))) (c .table-at .ensures)
-          ∙ stored-row l full (s .v) (s .table) (s .r) (omega arith) (omega arith),
+      ap (λ (i : ℕ). tables (set l i (s .v))) (c .row-at .ensures) ∙ stored-row l full (s .v) (s .table) (s .r) (omega arith) (omega arith),
     )
 
 pub set-row-spec : {M : Type 1} → statement M
-set-row-spec =
-    tie.close (tie.spec table-at-requires add-book mul-book slice-write-book same-length returns)
+set-row-spec = tie.close (tie.spec row-at-requires mul-book slice-write-book same-length returns)

@@ -1,39 +1,53 @@
--- Each turn of the loop stamps one cell more; past 63 no task is in a hand.
-use mathlib.Core.Path.{_≡_, _∙_}
-use Prim.Native.Nat.{_≤_, _-_}
+-- What is stamped, with the rest of the hand, is the hand stamped.
+use mathlib.Core.Path.{_≡_, refl}
+use Prim.Native.Nat.{_^_, _<_}
 use native.Mathlib.Omega.{arith}
+use Rattle.sets.proofs.MemberLaws.{lowest-lt, rest-lt}
+use Rattle.rules.specs.Requests.{stamped}
 use Rattle.book.specs.Slice.{tables, Full}
-use Rattle.cells.specs.Cells.{filledTo, newCell}
-use Rattle.cells.proofs.CellLaws.{none-filled, all-filled, no-new-cell, stamped-more, stamped-all}
+use Rattle.cells.proofs.CellLaws.{stamped-on, stamped-done}
 use borrow.Author.Needs.{needs}
 use Rattle.cells.proofs.stamp.Statement.{statement}
 use Rattle.cells.proofs.stamp.Tie as tie
 
 abbrev Inv-loop : tie.InvT-loop
-Inv-loop book₀ order wide narrow e subject task₀ book task =
-    (task ≤ 64) × Full book × (tables book ≡ filledTo task (tables book₀) order (newCell (tables book₀) order wide narrow e subject))
+Inv-loop book₀ order wide narrow e subject left₀ book left =
+    (left < 2 ^ 64) × Full book × (stamped (tables book) order left narrow e subject ≡ stamped (tables book₀) order wide narrow e subject)
 
 abbrev μ-loop : tie.MeasureT-loop
-μ-loop book₀ order wide narrow e subject task₀ book task = 64 - task
+μ-loop book₀ order wide narrow e subject left₀ book left = left
 
 loop-holds : tie.Need-loop-holds Inv-loop μ-loop
-loop-holds c = (omega arith, c .before .pre .0, none-filled _ _ _)
+loop-holds c = (search needs, c .before .pre .0, refl)
+
+lowest-requires : tie.Need-lowest-requires Inv-loop μ-loop
+lowest-requires c κs = search needs
 
 stamp-task-requires : tie.Need-stamp-task-requires Inv-loop μ-loop
-stamp-task-requires c κs = search needs
+stamp-task-requires c κs =
+    let l = c .before .before .before .loop in
+    let task : c .lowest .result < 64 = omega (arith, c .lowest .ensures, lowest-lt (l .left) (omega arith) (l .inv .0)) in
+    search needs
 
-add-task : tie.Need-add-task Inv-loop μ-loop
-add-task c = search needs
+rest-requires : tie.Need-rest-requires Inv-loop μ-loop
+rest-requires c κs = search needs
 
 loop-less : tie.Need-loop-less Inv-loop μ-loop
-loop-less c = search needs
+loop-less c =
+    let l = c .before .before .before .before .before .before .before .loop in
+    omega (arith, c .rest .ensures, rest-lt (l .left) (omega arith) (l .inv .0))
 
 loop-again : tie.Need-loop-again Inv-loop μ-loop
 loop-again c =
-    let s = c .before .before .before .before .before .before .before .args in
-    let at = c .before .before .before .before .before .loop in
-    let stored = c .before .before .stamp-task .ensures in
-    (omega arith, stored .0, stamped-more (tables (s .book .now)) (s .order) (s .wide) (s .narrow) (s .e) (s .subject) (at .task) (stored .1) (at .inv .2))
+    let s = c .before .before .before .before .before .before .before .before .before .args in
+    let l = c .before .before .before .before .before .before .before .loop in
+    let stored = c .before .before .before .stamp-task .ensures in
+    rw (c .rest .ensures) (
+      omega (arith, rest-lt (l .left) (omega arith) (l .inv .0)),
+      stored .0,
+      rw (stored .1, c .before .before .before .before .lowest .ensures)
+          (stamped-on (tables (l .book)) (s .order) (s .narrow) (s .e) (s .subject) (omega arith) (l .inv .0) (l .inv .2)),
+    )
 
 same-length : tie.Need-same-length Inv-loop μ-loop
 same-length c = search needs
@@ -41,13 +55,8 @@ same-length c = search needs
 returns : tie.Need-returns Inv-loop μ-loop
 returns c =
     let s = c .before .before .before .args in
-    let d = tables (s .book .now) in
-    let at = c .before .loop in (
-      at .inv .1,
-      at .inv .2
-          ∙ all-filled d (s .order) _ (at .task) (omega arith) (no-new-cell d (s .order) (s .wide) (s .narrow) (s .e) (s .subject) (omega arith))
-          ∙ stamped-all d (s .order) (s .wide) (s .narrow) (s .e) (s .subject),
-    )
+    let l = c .before .loop in
+    (l .inv .1, stamped-done (tables (l .book)) (s .order) (s .narrow) (s .e) (s .subject) (rw (c .loop-test .left) at (l .inv .2)))
 
 pub stamp-spec : {M : Type 1} → statement M
 stamp-spec =
@@ -56,8 +65,9 @@ stamp-spec =
     Inv-loop
     μ-loop
     loop-holds
+    lowest-requires
     stamp-task-requires
-    add-task
+    rest-requires
     loop-less
     loop-again
     same-length

@@ -193,10 +193,10 @@ returns-9 c =
     (c .before .before .unrelate .ensures)
 
 returns-10 : tie.Need-returns-10
-returns-10 c = from-none-below _ _ _ (c .before .before .before .pre .0) _ (c .if1 .taken)
+returns-10 c = from-none-below _ _ _ (c .before .before .before .pre .0 .0) _ (c .if1 .taken)
 
 returns-11 : tie.Need-returns-11
-returns-11 c = from-none-past _ _ _ (c .before .before .before .before .before .before .before .before .pre .0) _ (c .if6 .left)
+returns-11 c = from-none-past _ _ _ (c .before .before .before .before .before .before .before .before .pre .0 .0) _ (c .if6 .left)
 
 pub carry-out-spec : {M : Type 1} → statement M
 carry-out-spec =

@@ -1,7 +1,9 @@
 -- Each return meets the guarantee: a refusal by its number, a request carried out by what its deed settled.
 use mathlib.Core.Path.{refl, sym, _∙_}
 use native.Mathlib.Omega.{arith}
-use Rattle.book.specs.Slice.{Full}
+use Rattle.rules.specs.Meaning.{Fits}
+use Rattle.book.specs.Slice.{words, Full}
+use Rattle.scan.proofs.FormedLaws.{scanned}
 use Rattle.desk.specs.Guarantee.{ask}
 use Rattle.desk.proofs.Exits.{refused, wrong-length, bad-word, argument-fault, carried, settled-answered}
 use borrow.Author.Needs.{needs}
@@ -43,7 +45,11 @@ returns-3 c =
     refused (s .book .now) q fault refl
 
 carry-out-requires : tie.Need-carry-out-requires
-carry-out-requires c κs = (search needs, sym (c .before .before .argument-fault .ensures) ∙ c .before .if3 .left)
+carry-out-requires c κs =
+    let s = c .before .before .before .before .before .before .before .before .before .args in
+    let found = c .before .before .before .before .before .first-bad .ensures in
+    let fits : Fits (words (s .book .now)) = λ i. omega (arith, c .before .before .before .before .before .before .before .before .slice-known .given i) in
+    (scanned (s .book .now) (omega arith) fits found (omega arith), sym (c .before .before .argument-fault .ensures) ∙ c .before .if3 .left)
 
 same-length-3 : tie.Need-same-length-3
 same-length-3 c = search needs

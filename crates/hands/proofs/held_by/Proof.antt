@@ -1,53 +1,64 @@
--- Before turn t the held tasks below t are joined.
+-- What is held of the tasks seen, with what is held of those left, is all that is held.
 use mathlib.Core.Path.{_≡_, refl, ap, _∙_}
-use Prim.Native.Nat.{_-_, _≤_}
+use Prim.Native.Nat.{_^_, _<_}
 use native.Mathlib.Omega.{arith}
+use lib.Bits.{bitOr}
 use Rattle.sets.specs.Mask.{joined}
+use Rattle.sets.proofs.MemberLaws.{lowest-lt, rest-lt, joined-on, joined-done}
 use Rattle.rules.specs.Numbers.{heldBy}
 use Rattle.book.specs.Slice.{tables}
-use Rattle.trade.proofs.MixedLaws.{joined-all}
 use Rattle.hands.specs.Held.{heldRow}
-use Rattle.hands.proofs.HeldLaws.{held-more}
 use borrow.Author.Needs.{needs}
 use Rattle.hands.proofs.held_by.Statement.{statement}
 use Rattle.hands.proofs.held_by.Tie as tie
 
 abbrev Inv-loop : tie.InvT-loop
-Inv-loop book order subject tasks held₀ t₀ held t = (t ≤ 64) × (held ≡ joined t (heldRow (tables book) order subject) tasks)
+Inv-loop book order subject held₀ left₀ held left =
+    let rows = heldRow (tables book) order subject in
+    (left < 2 ^ 64) × (bitOr held (joined 64 rows left) ≡ joined 64 rows left₀)
 
 abbrev μ-loop : tie.MeasureT-loop
-μ-loop book order subject tasks held₀ t₀ held t = 64 - t
+μ-loop book order subject held₀ left₀ held left = left
 
 row-requires : tie.Need-row-requires Inv-loop μ-loop
 row-requires c κs = search needs
 
 loop-holds : tie.Need-loop-holds Inv-loop μ-loop
-unfolding joined
-loop-holds c = (omega arith, refl)
+loop-holds c = (search needs, refl)
 
-with-held-requires : tie.Need-with-held-requires Inv-loop μ-loop
-with-held-requires c κs = search needs
+lowest-requires : tie.Need-lowest-requires Inv-loop μ-loop
+lowest-requires c κs = search needs
 
-add-t : tie.Need-add-t Inv-loop μ-loop
-add-t c = search needs
+held-row-requires : tie.Need-held-row-requires Inv-loop μ-loop
+held-row-requires c κs =
+    let l = c .before .before .loop in
+    let t : c .lowest .result < 64 = omega (arith, c .lowest .ensures, lowest-lt (l .left) (omega arith) (l .inv .0)) in
+    search needs
+
+rest-requires : tie.Need-rest-requires Inv-loop μ-loop
+rest-requires c κs = search needs
 
 loop-less : tie.Need-loop-less Inv-loop μ-loop
-loop-less c = search needs
+loop-less c =
+    let l = c .before .before .before .before .loop in
+    omega (arith, c .rest .ensures, rest-lt (l .left) (omega arith) (l .inv .0))
 
 loop-again : tie.Need-loop-again Inv-loop μ-loop
 loop-again c =
-    let s = c .before .before .before .before .before .args in
-    let tasks = c .before .before .before .row .result in
-    let at = c .before .before .loop in
-    (omega arith, held-more (tables (s .book .now)) (s .order) (s .subject) tasks (at .t) (at .held) (c .with-held .ensures) (at .inv .1))
+    let s = c .before .before .before .before .before .before .before .args in
+    let l = c .before .before .before .before .loop in
+    rw (c .rest .ensures, c .before .held-row .ensures, c .before .before .lowest .ensures) (
+      omega (arith, rest-lt (l .left) (omega arith) (l .inv .0)),
+      joined-on (heldRow (tables (s .book .now)) (s .order) (s .subject)) (l .held) (omega arith) (l .inv .0) (l .inv .1),
+    )
 
 returns : tie.Need-returns Inv-loop μ-loop
 unfolding heldBy
 returns c =
     let s = c .before .before .before .before .args in
+    let l = c .before .loop in
     let rows = heldRow (tables (s .book .now)) (s .order) (s .subject) in
-    let at = c .before .loop in
-    at .inv .1 ∙ joined-all rows _ (at .t) (omega arith) (omega arith) ∙ ap (joined 64 rows) (c .before .before .row .ensures)
+    joined-done rows (l .held) (rw (c .loop-test .left) at (l .inv .1)) ∙ ap (joined 64 rows) (c .before .before .row .ensures)
 
 pub held-by-spec : {M : Type 1} → statement M
 held-by-spec =
@@ -57,8 +68,9 @@ held-by-spec =
     μ-loop
     row-requires
     loop-holds
-    with-held-requires
-    add-t
+    lowest-requires
+    held-row-requires
+    rest-requires
     loop-less
     loop-again
     returns)

@@ -1,9 +1,13 @@
--- A search in which the rest gives what the whole gives.
-use mathlib.Core.Path.{_≡_, refl, sym, _∙_}
-use Prim.Native.Nat.{_-_, _≤_}
+-- A search over the owned tasks: who is not left has no clash, and who is left is owned.
+use mathlib.Core.Path.{_≡_, sym, ap, _∙_}
+use mathlib.Core.Bool.{Bool, true, false}
+use Prim.Native.Nat.{ℕ, _^_, _<_}
 use native.Mathlib.Omega.{arith}
+use Rattle.sets.specs.Mask.{bit, meet}
 use Rattle.sets.specs.Search.{lowest}
-use Rattle.sets.proofs.SearchLaws.{searchRest, search-on, search-at, search-out}
+use Rattle.sets.proofs.Logic.{and-in, and-fails-l, and-fails-r}
+use Rattle.sets.proofs.MaskLaws.{without-old}
+use Rattle.sets.proofs.MemberLaws.{lowest-lt, lowest-in, rest-lt, Seen, seen-on, seen-at, seen-none}
 use Rattle.rules.specs.Book.{SME}
 use Rattle.rules.specs.Numbers.{clash}
 use Rattle.book.specs.Slice.{tables}
@@ -12,41 +16,63 @@ use Rattle.owners.proofs.clash_of.Statement.{statement}
 use Rattle.owners.proofs.clash_of.Tie as tie
 
 abbrev Inv-loop : tie.InvT-loop
-Inv-loop book owned gain t₀ t = (t ≤ 64) × (searchRest (clash ((tables book) .row SME) gain owned) t 64 ≡ lowest (clash ((tables book) .row SME) gain owned))
+Inv-loop book owned gain left₀ left =
+    (left < 2 ^ 64) × Seen (clash ((tables book) .row SME) gain owned) false left × ((k : ℕ) → bit left k ≡ true → bit owned k ≡ true)
 
 abbrev μ-loop : tie.MeasureT-loop
-μ-loop book owned gain t₀ t = 64 - t
+μ-loop book owned gain left₀ left = left
 
 loop-holds : tie.Need-loop-holds Inv-loop μ-loop
-loop-holds c = (omega arith, refl)
+loop-holds c = (search needs, λ k l e. and-fails-l _ _ e, λ k e. e)
 
-is-clash-requires : tie.Need-is-clash-requires Inv-loop μ-loop
-is-clash-requires c κs = search needs
+lowest-requires : tie.Need-lowest-requires Inv-loop μ-loop
+lowest-requires c κs = search needs
+
+row-requires : tie.Need-row-requires Inv-loop μ-loop
+row-requires c κs =
+    let l = c .before .before .loop in
+    (search needs, search needs, omega (arith, c .lowest .ensures, lowest-lt (l .left) (omega arith) (l .inv .0)))
+
+meets-requires : tie.Need-meets-requires Inv-loop μ-loop
+meets-requires c κs = search needs
 
 returns : tie.Need-returns Inv-loop μ-loop
 returns c =
-    let s = c .before .before .before .before .before .args in
-    search-at (clash ((tables (s .book .now)) .row SME) (s .gain) (s .owned)) (omega arith) (c .before .before .before .loop .inv .1)
-    (sym (c .before .is-clash .ensures) ∙ c .if1 .taken)
+    let s = c .before .before .before .before .before .before .before .args in
+    let l = c .before .before .before .before .before .loop in
+    let at = c .before .before .before .lowest .ensures in
+    let g : ℕ → Bool = λ k. meet ((tables (s .book .now)) .row SME k) (s .gain) in
+    let row = c .before .meets .ensures ∙ ap (λ (x : ℕ). meet x (s .gain)) (c .before .before .row .ensures) ∙ ap g at in
+    at ∙ seen-at (clash ((tables (s .book .now)) .row SME) (s .gain) (s .owned)) (omega arith) (l .inv .0) (l .inv .1)
+    (and-in (l .inv .2 _ (lowest-in (l .left) (omega arith) (l .inv .0))) (sym row ∙ c .if1 .taken))
 
-add-t : tie.Need-add-t Inv-loop μ-loop
-add-t c = search needs
+rest-requires : tie.Need-rest-requires Inv-loop μ-loop
+rest-requires c κs = search needs
 
 loop-less : tie.Need-loop-less Inv-loop μ-loop
-loop-less c = search needs
+loop-less c = let l = c .before .before .before .before .before .before .loop in omega (arith, c .rest .ensures, rest-lt (l .left) (omega arith) (l .inv .0))
 
 loop-again : tie.Need-loop-again Inv-loop μ-loop
 loop-again c =
-    let s = c .before .before .before .before .before .args in (
-      omega arith,
-      search-on (clash ((tables (s .book .now)) .row SME) (s .gain) (s .owned)) (omega arith)
-          (c .before .before .before .loop .inv .1) (sym (c .before .is-clash .ensures) ∙ c .if1 .left),
+    let s = c .before .before .before .before .before .before .before .before .args in
+    let l = c .before .before .before .before .before .before .loop in
+    let g : ℕ → Bool = λ k. meet ((tables (s .book .now)) .row SME k) (s .gain) in
+    let x = lowest (bit (l .left)) in
+    let f : ℕ → Bool = clash ((tables (s .book .now)) .row SME) (s .gain) (s .owned) in
+    let row = c .before .before .meets .ensures ∙ ap (λ (x : ℕ). meet x (s .gain)) (c .before .before .before .row .ensures)
+    ∙ ap g (c .before .before .before .before .lowest .ensures) in (
+      omega (arith, c .rest .ensures, rest-lt (l .left) (omega arith) (l .inv .0)),
+      λ k h e. seen-on f (omega arith) (l .inv .0) (l .inv .1) (and-fails-r (bit (s .owned) x) (g x) (sym row ∙ c .before .if1 .left)) k h
+          (ap (λ (m : ℕ). bit m k) (sym (c .rest .ensures)) ∙ e),
+      λ k e. l .inv .2 k (without-old (l .left) _ k (ap (λ (m : ℕ). bit m k) (sym (c .rest .ensures)) ∙ e)),
     )
 
 returns-2 : tie.Need-returns-2 Inv-loop μ-loop
 returns-2 c =
     let s = c .before .before .before .args in
-    search-out (clash ((tables (s .book .now)) .row SME) (s .gain) (s .owned)) (omega arith) (omega arith) (c .before .loop .inv .1)
+    let l = c .before .loop in
+    let none : l .left ≡ 0 = omega arith in
+    seen-none (clash ((tables (s .book .now)) .row SME) (s .gain) (s .owned)) (λ k h e. l .inv .1 k h (ap (λ (m : ℕ). bit m k) none ∙ e))
 
 pub clash-of-spec : {M : Type 1} → statement M
 clash-of-spec =
@@ -55,9 +81,11 @@ clash-of-spec =
     Inv-loop
     μ-loop
     loop-holds
-    is-clash-requires
+    lowest-requires
+    row-requires
+    meets-requires
     returns
-    add-t
+    rest-requires
     loop-less
     loop-again
     returns-2)

@@ -1,71 +1,121 @@
--- A search for the lowest owner with a clash, in which the rest gives what the whole gives.
-use mathlib.Core.Path.{_≡_, refl, sym, ap, _∙_}
-use Prim.Native.Nat.{ℕ, _-_, _≤_}
+-- Who starts with a role above b and with one that owns a clashing task has a clash; the lowest of them is the one.
+use mathlib.Core.Path.{sym, ap, ap₂, _∙_}
+use mathlib.Core.Bool.{Bool}
+use Prim.Native.Nat.{ℕ, _^_, _<_}
 use native.Mathlib.Omega.{arith}
-use lib.Dec.{ltb}
-use borrow.Author.Tests.{lt-ltb, le-ltb}
-use Rattle.sets.specs.Search.{lowest, paired}
-use Rattle.sets.proofs.SearchLaws.{searchRest, search-on, search-at}
-use Rattle.book.specs.Slice.{tables}
-use Rattle.search.proofs.PairLaws.{found-at, nothing-found}
+use lib.Bits.{bitAnd}
+use Rattle.sets.specs.Mask.{bit, meet}
+use Rattle.sets.specs.Search.{lowest}
+use Rattle.sets.proofs.SearchLaws.{lowest-passes}
+use Rattle.rules.specs.Book.{SME}
+use Rattle.rules.specs.Trade.{ownedTasks}
+use Rattle.rules.proofs.BookLaws.{read-sized}
+use Rattle.book.specs.Slice.{words, tables}
+use Rattle.search.proofs.PairLaws.{found-at}
 use Rattle.owners.specs.Owners.{clashesBelow}
+use Rattle.search.specs.Among.{among}
+use Rattle.owners.specs.Rising.{above, ownersOf, clashing, startsInBoth}
+use Rattle.owners.proofs.RisingLaws.{no-clashing, no-holders, no-owner, first-owner, first-task}
 use borrow.Author.Needs.{needs}
 use Rattle.owners.proofs.first_clash.Statement.{statement}
 use Rattle.owners.proofs.first_clash.Tie as tie
 
-abbrev Inv-loop : tie.InvT-loop
-Inv-loop book owner b gain o₀ o =
-    let clashing = paired (clashesBelow (tables book) owner b gain) in
-    (o ≤ 64) × (searchRest clashing o 64 ≡ lowest clashing)
+head-requires : tie.Need-head-requires
+head-requires c κs = search needs
 
-abbrev μ-loop : tie.MeasureT-loop
-μ-loop book owner b gain o₀ o = 64 - o
+meeting-requires : tie.Need-meeting-requires
+meeting-requires c κs = search needs
 
-loop-holds : tie.Need-loop-holds Inv-loop μ-loop
-loop-holds c = (omega arith, refl)
-
-clash-at-requires : tie.Need-clash-at-requires Inv-loop μ-loop
-clash-at-requires c κs = search needs
-
-returns : tie.Need-returns Inv-loop μ-loop
+returns : tie.Need-returns
 returns c =
-    let s = c .before .before .before .before .before .args in
-    let l = c .before .before .before .loop in
-    let f = clashesBelow (tables (s .book .now)) (s .owner) (s .b) (s .gain) in
-    let t = c .before .clash-at in
-    let paired-here = ap (λ (k : ℕ). ltb k 64) (sym (t .ensures)) ∙ lt-ltb (t .result) 64 (c .if1 .taken) in
-    found-at f (l .o) (t .result) (omega arith) (search-at (paired f) (omega arith) (l .inv .1) paired-here) (t .ensures)
+    let b = c .before .before .before .before in
+    let s = b .args in
+    let d = tables (s .book .now) in
+    let sized = read-sized (words (s .book .now)) (λ i. omega (arith, c .before .before .before .shared-slice-known .given i)) in
+    no-clashing d sized (b .pre .0 .1) (s .owner) (s .b) (s .gain) (omega arith) (search needs)
+    (sym (c .before .meeting .ensures ∙ ap (λ (m : ℕ). among m (λ t. meet (d .row SME t) (s .gain))) (c .before .before .head .ensures)) ∙ c .if1 .taken)
 
-add-o : tie.Need-add-o Inv-loop μ-loop
-add-o c = search needs
+owners-of-requires : tie.Need-owners-of-requires
+owners-of-requires c κs = search needs
 
-loop-less : tie.Need-loop-less Inv-loop μ-loop
-loop-less c = search needs
-
-loop-again : tie.Need-loop-again Inv-loop μ-loop
-loop-again c =
-    let s = c .before .before .before .before .before .args in
-    let l = c .before .before .before .loop in
-    let t = c .before .clash-at in
-    let alone = ap (λ (k : ℕ). ltb k 64) (sym (t .ensures)) ∙ le-ltb (t .result) 64 (omega arith) in
-    (omega arith, search-on (paired (clashesBelow (tables (s .book .now)) (s .owner) (s .b) (s .gain))) (omega arith) (l .inv .1) alone)
-
-returns-2 : tie.Need-returns-2 Inv-loop μ-loop
+returns-2 : tie.Need-returns-2
 returns-2 c =
-    let s = c .before .before .before .args in
-    let l = c .before .loop in
-    nothing-found (clashesBelow (tables (s .book .now)) (s .owner) (s .b) (s .gain)) (l .o) (omega arith) (omega arith) (l .inv .1)
+    let b = c .before .before .before .before .before .before in
+    let s = b .args in
+    let d = tables (s .book .now) in
+    let sized = read-sized (words (s .book .now)) (λ i. omega (arith, c .before .before .before .before .before .shared-slice-known .given i)) in
+    let some = c .before .before .before .meeting .ensures
+    ∙ ap (λ (m : ℕ). among m (λ t. meet (d .row SME t) (s .gain))) (c .before .before .before .before .head .ensures) in
+    no-holders d sized (b .pre .0 .1) (s .owner) (s .b) (s .gain) (omega arith) (search needs)
+    (sym (c .before .owners-of .ensures ∙ ap (ownersOf d) some) ∙ c .if2 .taken)
+
+alone-requires : tie.Need-alone-requires
+alone-requires c κs = search needs
+
+above-requires : tie.Need-above-requires
+above-requires c κs = search needs
+
+lowest-starter-requires : tie.Need-lowest-starter-requires
+lowest-starter-requires c κs = search needs
+
+returns-3 : tie.Need-returns-3
+returns-3 c =
+    let m = c .before .before .before .before .before in
+    let b = m .before .before .before .before .before in
+    let s = b .args in
+    let d = tables (s .book .now) in
+    let sized = read-sized (words (s .book .now)) (λ i. omega (arith, m .before .before .before .before .shared-slice-known .given i)) in
+    let some = m .before .before .meeting .ensures ∙ ap (λ (x : ℕ). among x (λ t. meet (d .row SME t) (s .gain))) (m .before .before .before .head .ensures) in
+    let up = c .before .before .above .ensures ∙ ap (above d) (c .before .before .before .alone .ensures) in
+    let at = c .before .lowest-starter .ensures
+    ∙ ap₂ (λ (x y : ℕ). lowest (startsInBoth d (s .owner) x y)) up (m .owners-of .ensures ∙ ap (ownersOf d) some) in
+    no-owner d sized (b .pre .0 .1) (s .owner) (s .b) (s .gain) (omega arith) (search needs) (omega (arith, at))
+
+start-of-requires : tie.Need-start-of-requires
+start-of-requires c κs = search needs
+
+owned-tasks-requires : tie.Need-owned-tasks-requires
+owned-tasks-requires c κs = search needs
+
+lowest-requires : tie.Need-lowest-requires
+lowest-requires c κs = search needs
+
+returns-4 : tie.Need-returns-4
+returns-4 c =
+    let m = c .before .before .before .before .before .before .before .before in
+    let b = m .before .before .before .before .before in
+    let s = b .args in
+    let d = tables (s .book .now) in
+    let sized = read-sized (words (s .book .now)) (λ i. omega (arith, m .before .before .before .before .shared-slice-known .given i)) in
+    let some = m .before .before .meeting .ensures ∙ ap (λ (x : ℕ). among x (λ t. meet (d .row SME t) (s .gain))) (m .before .before .before .head .ensures) in
+    let up = c .before .before .before .before .before .above .ensures ∙ ap (above d) (c .before .before .before .before .before .before .alone .ensures) in
+    let at = c .before .before .before .before .lowest-starter .ensures
+    ∙ ap₂ (λ (x y : ℕ). lowest (startsInBoth d (s .owner) x y)) up (m .owners-of .ensures ∙ ap (ownersOf d) some) in
+    let o = c .before .before .before .before .lowest-starter .result in
+    let l : o < 64 = omega arith in
+    let starts : ℕ → Bool = startsInBoth d (s .owner) (above d (2 ^ s .b)) (ownersOf d (clashing d (s .gain))) in
+    let holds = ap starts at ∙ lowest-passes 64 0 starts (omega (arith, at)) in
+    found-at (clashesBelow d (s .owner) (s .b) (s .gain)) o (c .lowest .result) l
+    (at ∙ first-owner d sized (b .pre .0 .1) (s .owner) (s .b) (s .gain) (omega arith) (search needs))
+    (c .lowest .ensures
+    ∙ ap₂ (λ (x y : ℕ). lowest (bit (bitAnd x y)))
+    (c .before .owned-tasks .ensures ∙ ap (ownedTasks d) (c .before .before .start-of .ensures)) some
+    ∙ first-task d sized (b .pre .0 .1) (s .owner) (s .b) (s .gain) (omega arith) (search needs) o l holds)
 
 pub first-clash-spec : {M : Type 1} → statement M
 first-clash-spec =
     tie.close
     (tie.spec
-    Inv-loop
-    μ-loop
-    loop-holds
-    clash-at-requires
+    head-requires
+    meeting-requires
     returns
-    add-o
-    loop-less
-    loop-again
-    returns-2)
+    owners-of-requires
+    returns-2
+    alone-requires
+    above-requires
+    lowest-starter-requires
+    returns-3
+    start-of-requires
+    owned-tasks-requires
+    lowest-requires
+    returns-4)

@@ -1,71 +1,100 @@
--- The loop's invariant: the rest of the words gives the same lowest bad word as the whole book.
--- Each turn passes a word that is good, because it is 0 or by the test.
-use mathlib.Core.Path.{_≡_, refl, sym, _∙_}
-use Prim.Native.Nat.{_≤_, _-_}
+-- Block by block: no word before the block is bad, so the lowest bad word of the block is the lowest of the book.
+use mathlib.Core.Path.{sym, _∙_}
+use Prim.Native.Nat.{_+_, _-_, _*_, _≤_}
 use native.Mathlib.Omega.{arith}
-use Rattle.sets.proofs.SearchLaws.{searchRest, search-on, search-at, search-out}
-use Rattle.rules.specs.Book.{bookWords, bad, firstBad}
-use Rattle.book.specs.Slice.{words, tables}
-use Rattle.scan.proofs.BadLaws.{zero-good, as-placed}
+use Rattle.sets.proofs.SearchLaws.{lowest-end}
+use Rattle.rules.specs.Book.{bookWords, tableCount, tableAt, cellsAt, bad, firstBad}
+use Rattle.book.specs.Slice.{tables}
+use Rattle.scan.proofs.BlockLaws.{NoneBelow, block-on, block-at, gap-bad, past-head}
 use borrow.Author.Needs.{needs}
 use Rattle.scan.proofs.first_bad.Statement.{statement}
 use Rattle.scan.proofs.first_bad.Tie as tie
 
 abbrev Inv-loop : tie.InvT-loop
-Inv-loop book i₀ i = (i ≤ bookWords) × (searchRest (bad (tables book)) i bookWords ≡ firstBad (tables book))
+Inv-loop book table₀ table = (table ≤ tableCount) × NoneBelow (bad (tables book)) (tableAt table)
 
 abbrev μ-loop : tie.MeasureT-loop
-μ-loop book i₀ i = bookWords - i
+μ-loop book table₀ table = tableCount - table
 
-loop-holds : tie.Need-loop-holds Inv-loop μ-loop
+abbrev Inv-loop2 : tie.InvT-loop2
+Inv-loop2 book order₀ order = (order ≤ 64) × NoneBelow (bad (tables book)) (cellsAt + 64 * order)
+
+abbrev μ-loop2 : tie.MeasureT-loop2
+μ-loop2 book order₀ order = 64 - order
+
+head-requires : tie.Need-head-requires Inv-loop μ-loop Inv-loop2 μ-loop2
+head-requires c κs = search needs
+
+returns : tie.Need-returns Inv-loop μ-loop Inv-loop2 μ-loop2
+returns c =
+    gap-bad (tables (c .before .before .before .args .book .now)) (λ z. c .if1 .taken (c .before .head .ensures ∙ z))
+
+loop-holds : tie.Need-loop-holds Inv-loop μ-loop Inv-loop2 μ-loop2
+loop-holds c =
+    (omega arith, past-head (tables (c .before .before .before .args .book .now)) (sym (c .before .head .ensures) ∙ c .if1 .left))
+
+bad-row-in-requires : tie.Need-bad-row-in-requires Inv-loop μ-loop Inv-loop2 μ-loop2
+bad-row-in-requires c κs = search needs
+
+row-at-requires : tie.Need-row-at-requires Inv-loop μ-loop Inv-loop2 μ-loop2
+row-at-requires c κs = search needs
+
+returns-2 : tie.Need-returns-2 Inv-loop μ-loop Inv-loop2 μ-loop2
 unfolding firstBad
-loop-holds c = (omega arith, refl)
+returns-2 c =
+    let l = c .before .before .before .before .loop in
+    let f = bad (tables (c .before .before .before .before .before .before .before .before .args .book .now)) in
+    c .row-at .ensures
+    ∙ block-at f (tableAt (l .table)) (l .inv .1) bookWords (c .before .before .bad-row-in .ensures) (c .before .if2 .taken) (omega arith)
 
-mul-if1 : tie.Need-mul-if1 Inv-loop μ-loop
-mul-if1 c = search needs
+add-table : tie.Need-add-table Inv-loop μ-loop Inv-loop2 μ-loop2
+add-table c = search needs
 
-shared-slice-read-if1 : tie.Need-shared-slice-read-if1 Inv-loop μ-loop
-shared-slice-read-if1 c = search needs
-
-add-i : tie.Need-add-i Inv-loop μ-loop
-add-i c = search needs
-
-loop-less : tie.Need-loop-less Inv-loop μ-loop
+loop-less : tie.Need-loop-less Inv-loop μ-loop Inv-loop2 μ-loop2
 loop-less c = search needs
 
-loop-again : tie.Need-loop-again Inv-loop μ-loop
+loop-again : tie.Need-loop-again Inv-loop μ-loop Inv-loop2 μ-loop2
 loop-again c =
-    let l = c .before .before .before .before .before .args .book .now in
-    let i = c .before .before .before .loop .i in
-    (omega arith, search-on (bad (tables l)) (omega arith) (c .before .before .before .loop .inv .1) (zero-good (words l) i (omega arith) (c .if1 .taken)))
+    let l = c .before .before .before .loop in
+    let f = bad (tables (c .before .before .before .before .before .before .before .args .book .now)) in
+    let found = c .before .bad-row-in .ensures in
+    (omega arith, λ j h. block-on f (tableAt (l .table)) (l .inv .1) 64 (omega arith) j (omega arith))
 
-is-bad-at-requires : tie.Need-is-bad-at-requires Inv-loop μ-loop
-is-bad-at-requires c κs = search needs
+loop2-holds : tie.Need-loop2-holds Inv-loop μ-loop Inv-loop2 μ-loop2
+loop2-holds c = (omega arith, λ j h. c .before .loop .inv .1 j (omega arith))
 
-returns : tie.Need-returns Inv-loop μ-loop
-returns c =
-    let l = c .before .before .before .before .before .before .before .args .book .now in
-    let i = c .before .before .before .before .before .loop .i in
-    search-at (bad (tables l)) (omega arith) (c .before .before .before .before .before .loop .inv .1)
-    (as-placed (words l) i (omega arith) (c .before .before .if1 .left) ∙ sym (c .before .is-bad-at .ensures) ∙ c .if2 .taken)
+bad-cell-in-requires : tie.Need-bad-cell-in-requires Inv-loop μ-loop Inv-loop2 μ-loop2
+bad-cell-in-requires c κs = search needs
 
-add-i-2 : tie.Need-add-i-2 Inv-loop μ-loop
-add-i-2 c = search needs
+cell-at-requires : tie.Need-cell-at-requires Inv-loop μ-loop Inv-loop2 μ-loop2
+cell-at-requires c κs = search needs
 
-loop-less-2 : tie.Need-loop-less-2 Inv-loop μ-loop
-loop-less-2 c = search needs
+returns-3 : tie.Need-returns-3 Inv-loop μ-loop Inv-loop2 μ-loop2
+unfolding firstBad
+returns-3 c =
+    let l = c .before .before .before .before .loop2 in
+    let f = bad (tables (c .before .before .before .before .before .before .before .before .before .before .args .book .now)) in
+    c .cell-at .ensures
+    ∙ block-at f (cellsAt + 64 * l .order) (l .inv .1) bookWords (c .before .before .bad-cell-in .ensures) (c .before .if3 .taken) (omega arith)
 
-loop-again-2 : tie.Need-loop-again-2 Inv-loop μ-loop
-loop-again-2 c =
-    let l = c .before .before .before .before .before .before .before .args .book .now in
-    let i = c .before .before .before .before .before .loop .i in (
-      omega arith,
-      search-on (bad (tables l)) (omega arith) (c .before .before .before .before .before .loop .inv .1)
-          (as-placed (words l) i (omega arith) (c .before .before .if1 .left) ∙ sym (c .before .is-bad-at .ensures) ∙ c .if2 .left),
-    )
+add-order : tie.Need-add-order Inv-loop μ-loop Inv-loop2 μ-loop2
+add-order c = search needs
 
-returns-2 : tie.Need-returns-2 Inv-loop μ-loop
-returns-2 c = search-out (bad (tables (c .before .before .before .args .book .now))) (omega arith) (omega arith) (c .before .loop .inv .1)
+loop2-less : tie.Need-loop2-less Inv-loop μ-loop Inv-loop2 μ-loop2
+loop2-less c = search needs
+
+loop2-again : tie.Need-loop2-again Inv-loop μ-loop Inv-loop2 μ-loop2
+loop2-again c =
+    let l = c .before .before .before .loop2 in
+    let f = bad (tables (c .before .before .before .before .before .before .before .before .before .args .book .now)) in
+    let found = c .before .bad-cell-in .ensures in
+    (omega arith, λ j h. block-on f (cellsAt + 64 * l .order) (l .inv .1) 64 (omega arith) j (omega arith))
+
+returns-4 : tie.Need-returns-4 Inv-loop μ-loop Inv-loop2 μ-loop2
+unfolding firstBad
+returns-4 c =
+    let f = bad (tables (c .before .before .before .before .before .before .before .args .book .now)) in
+    lowest-end bookWords f (λ j h. c .before .loop2 .inv .1 j (omega arith))
 
 pub first-bad-spec : {M : Type 1} → statement M
 first-bad-spec =
@@ -73,15 +102,22 @@ first-bad-spec =
     (tie.spec
     Inv-loop
     μ-loop
+    Inv-loop2
+    μ-loop2
+    head-requires
+    returns
     loop-holds
-    mul-if1
-    shared-slice-read-if1
-    add-i
+    bad-row-in-requires
+    row-at-requires
+    returns-2
+    add-table
     loop-less
     loop-again
-    is-bad-at-requires
-    returns
-    add-i-2
-    loop-less-2
-    loop-again-2
-    returns-2)
+    loop2-holds
+    bad-cell-in-requires
+    cell-at-requires
+    returns-3
+    add-order
+    loop2-less
+    loop2-again
+    returns-4)

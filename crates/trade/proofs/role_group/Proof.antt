@@ -1,4 +1,4 @@
--- The closure over SB and RB mixed, from t alone.
+-- What is bound with t alone.
 use mathlib.Core.Path.{ap, _∙_}
 use Rattle.chains.specs.Closure as chains
 use Rattle.rules.specs.Book.{SB, RB}
@@ -11,14 +11,14 @@ use Rattle.trade.proofs.role_group.Tie as tie
 alone-requires : tie.Need-alone-requires
 alone-requires c κs = search needs
 
-spread-requires : tie.Need-spread-requires
-spread-requires c κs = search needs
+bound-with-requires : tie.Need-bound-with-requires
+bound-with-requires c κs = search needs
 
 returns : tie.Need-returns
 unfolding roleGroup chains.group
 returns c =
     let s = c .before .before .before .args in
-    c .spread .ensures ∙ ap (chains.close 64 (mixed (tables (s .book .now)) SB RB)) (c .before .alone .ensures)
+    c .bound-with .ensures ∙ ap (chains.close 64 (mixed (tables (s .book .now)) SB RB)) (c .before .alone .ensures)
 
 pub role-group-spec : {M : Type 1} → statement M
-role-group-spec = tie.close (tie.spec alone-requires spread-requires returns)
+role-group-spec = tie.close (tie.spec alone-requires bound-with-requires returns)
