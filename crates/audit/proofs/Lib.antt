@@ -1,3 +1,2 @@
 pub mod OneFinding
-pub mod NoRule
 pub mod UndefinedLaws

@@ -49,22 +49,54 @@ fn is_dme_apart(book: &[u64], x: u64) -> bool
     table_rules::is_apart(book, book::DME, trade::subject_group(book, x), x)
 }
 
-// What one of rules 1 to 8 asks of one number. What is none of them asks nothing here.
-fn is_kept_at(book: &[u64], rule: u8, x: u64) -> bool
-    requires { ⌜ Full (now book) × (x < 64) × (rule < 9) ⌝ }
+// Rules 1 and 2 of task x. What is neither asks nothing here.
+fn is_pair_kept(book: &[u64], rule: u8, x: u64) -> bool
+    requires { ⌜ Full (now book) × (x < 64) × (rule < 3) ⌝ }
     ensures { λ r. ⌜ r ≡ keptAt (tables (now (book .entry))) rule x ⌝ }
 {
     match rule {
         1 => table_rules::is_kept_in_four(book, RowRule::NotOwn, x),
         2 => table_rules::is_kept_in_four(book, RowRule::Symmetric, x),
-        3 => table_rules::is_apart(book, book::SME, book::row(book, book::DME, x), x),
-        4 => is_sme_apart(book, x),
-        5 => is_dme_apart(book, x),
-        6 => table_rules::is_acyclic(book, x),
-        7 => table_rules::is_pair_free(book, Owner::Role, x),
-        8 => table_rules::is_pair_free(book, Owner::Subject, x),
         _ => true,
     }
+}
+
+// Rules 3 to 5 of task x.
+fn is_exclusion_kept(book: &[u64], rule: u8, x: u64) -> bool
+    requires { ⌜ Full (now book) × (x < 64) × (2 < rule) × (rule < 6) ⌝ }
+    ensures { λ r. ⌜ r ≡ keptAt (tables (now (book .entry))) rule x ⌝ }
+{
+    match rule {
+        3 => table_rules::is_apart(book, book::SME, book::row(book, book::DME, x), x),
+        4 => is_sme_apart(book, x),
+        _ => is_dme_apart(book, x),
+    }
+}
+
+// Rules 6 and 7 of role x, rule 8 of subject x.
+fn is_owner_kept(book: &[u64], rule: u8, x: u64) -> bool
+    requires { ⌜ Full (now book) × (x < 64) × (5 < rule) × (rule < 9) ⌝ }
+    ensures { λ r. ⌜ r ≡ keptAt (tables (now (book .entry))) rule x ⌝ }
+{
+    match rule {
+        6 => table_rules::is_acyclic(book, x),
+        7 => table_rules::is_pair_free(book, Owner::Role, x),
+        _ => table_rules::is_pair_free(book, Owner::Subject, x),
+    }
+}
+
+// What one of rules 1 to 8 asks of one number. It is asked of every number, so the rules part by tests: a jump through a table costs more.
+fn is_kept_at(book: &[u64], rule: u8, x: u64) -> bool
+    requires { ⌜ Full (now book) × (x < 64) × (rule < 9) ⌝ }
+    ensures { λ r. ⌜ r ≡ keptAt (tables (now (book .entry))) rule x ⌝ }
+{
+    if rule < 3 {
+        return is_pair_kept(book, rule, x);
+    }
+    if rule < 6 {
+        return is_exclusion_kept(book, rule, x);
+    }
+    is_owner_kept(book, rule, x)
 }
 
 // Whether one of rules 1 to 8 is kept: it is at every defined number, and at the others by itself.

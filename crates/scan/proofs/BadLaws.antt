@@ -1,19 +1,19 @@
 -- What makes one word bad, in the steps of the scan: a word of 0 never is, and any other is judged by its place.
 use mathlib.Core.Path.{_≡_, refl, sym, ap, ap₂, _∙_}
 use mathlib.Core.Bool.{Bool, true, false, _&&_, _||_, not}
-use Prim.Native.Nat.{ℕ, zero, suc, _-_, _^_, _≤_, _<_}
+use Prim.Native.Nat.{ℕ, zero, suc, _+_, _-_, _%_, _^_, _≤_, _<_}
 use native.Mathlib.Omega.{arith}
 use native.Mathlib.Decide.{decLt}
 use lib.Dec.{eqb, ltb, leb}
-use borrow.Author.Tests.{eq-eqb, ne-eqb, eqb-true, lt-ltb, le-ltb, ltb-true, le-leb, lt-leb, leb-true, not-false}
+use borrow.Author.Tests.{eq-eqb, ne-eqb, eqb-true, lt-ltb, le-ltb, le-leb, lt-leb, not-false}
 use Rattle.sets.specs.Mask.{bit, within, meet}
-use Rattle.sets.proofs.Logic.{and-out, and-in, and-fails-l, or-in-l, or-in-r, or-none, not-both, refute, not-in}
+use Rattle.sets.proofs.Logic.{and-fails-l, or-in-l, not-both, refute, not-in}
 use Rattle.sets.proofs.MaskLaws.{bit-not, bit-lt, zero-none, within-out, within-in, meet-in}
 use Rattle.sets.proofs.SearchLaws.{meet-out}
-use Rattle.rules.specs.Book.{Book, roles, subjects, orders, cellOf, roleIn, subjectIn, names, badMask, badCell, badCellAt}
+use Rattle.rules.specs.Book.{Book, roles, subjects, orders, names, badMask, badCellAt}
 use Rattle.rules.proofs.BookLaws.{chosen, unchosen}
 use Rattle.rules.proofs.WordLaws.{badWord, bad-cell}
-use Rattle.scan.specs.Blocks.{hasRole, cellBad}
+use Rattle.scan.specs.Blocks.{wordBad, cellBad}
 
 -- The word v is what stands at the place, x:
 module _ {v x : ℕ} (t : Bool) (e : v ≡ x) where
@@ -25,40 +25,38 @@ module _ {v x : ℕ} (t : Bool) (e : v ≡ x) where
   pub some-word : (v ≡ 0 → ⊥) → badWord x t ≡ t
   some-word n = unchosen false t (eqb x 0) (ne-eqb x 0 (λ z. n (e ∙ z)))
 
--- A number above 64 names nobody ..
-pub names-none : (m v : ℕ) → 64 < v → names m v ≡ false
+-- 0 names nobody, and that is allowed; a number above 64 does not name ..
+names-nobody : (m v : ℕ) → v ≡ 0 → names m v ≡ true
+unfolding names
+names-nobody m zero e = refl
+names-nobody m (suc v) e = absurd (omega arith)
+
+names-none : (m v : ℕ) → 64 < v → names m v ≡ false
 unfolding names
 names-none m zero h = absurd (omega arith)
 names-none m (suc v) h = and-fails-l _ _ (le-ltb v 64 (omega arith))
 
 -- .. and one of 1 to 64 names the number one below it.
-pub names-one : (m v : ℕ) → (v ≡ 0 → ⊥) → v ≤ 64 → names m v ≡ bit m (v - 1)
+names-one : (m v : ℕ) → (v ≡ 0 → ⊥) → v ≤ 64 → names m v ≡ bit m (v - 1)
 unfolding names
 names-one m zero n h = absurd (n refl)
 names-one m (suc v) n h =
     let e : v ≡ suc v - 1 = omega arith in
     ap (λ (t : Bool). t && bit m v) (lt-ltb v 64 (omega arith)) ∙ ap (bit m) e
 
--- E of a cell is 1 to 64 exactly where the cell is 128 at least, and below 65 times that ..
-pub role-by-word : (v : ℕ) {low high : ℕ} → low ≡ cellOf 1 0 → high ≡ cellOf 64 127 → (leb low v && leb v high) ≡ hasRole v
-role-by-word v {low} {high} a b = ap₂ _&&_ (some (decLt v 128)) (most (decLt 8319 v))
+-- Looked up without a branch: at the place one below v, or where v has none at that of another number, which does not count.
+pub names-by : (m v : ℕ) → (eqb v 0 || (leb v 64 && bit m ((v % 64 + 63) % 64))) ≡ names m v
+names-by m v = go (decLt 0 v) (decLt 64 v)
   where
-    some : Dec (v < 128) → leb low v ≡ ltb 0 (roleIn v)
-    some (yes l) = lt-leb low v (omega arith) ∙ sym (le-ltb 0 (roleIn v) (omega arith))
-    some (no l) = le-leb low v (omega arith) ∙ sym (lt-ltb 0 (roleIn v) (omega arith))
-
-    most : Dec (8319 < v) → leb v high ≡ leb (roleIn v) 64
-    most (yes l) = lt-leb v high (omega arith) ∙ sym (lt-leb (roleIn v) 64 (omega arith))
-    most (no l) = le-leb v high (omega arith) ∙ sym (le-leb (roleIn v) 64 (omega arith))
-
--- .. and then it names the number one below it.
-pub role-number : (v : ℕ) → hasRole v ≡ true → (0 < roleIn v) × (roleIn v ≤ 64)
-role-number v e = let z = and-out (ltb 0 (roleIn v)) (leb (roleIn v) 64) e in (ltb-true 0 (roleIn v) (z .0), leb-true (roleIn v) 64 (z .1))
-
-pub role-named : (m v : ℕ) {e : ℕ} → e ≡ roleIn v → hasRole v ≡ true → names m (roleIn v) ≡ bit m (e - 1)
-role-named m v q h =
-    let some = role-number v h in
-    names-one m (roleIn v) (λ z. omega (arith, some .0)) (some .1) ∙ ap (λ (x : ℕ). bit m (x - 1)) (sym q)
+    go : Dec (0 < v) → Dec (64 < v) → (eqb v 0 || (leb v 64 && bit m ((v % 64 + 63) % 64))) ≡ names m v
+    go (no none) past =
+        let z : v ≡ 0 = omega arith in
+        or-in-l (eqb v 0) (leb v 64 && bit m ((v % 64 + 63) % 64)) (eq-eqb v 0 z) ∙ sym (names-nobody m v z)
+    go (yes some) (yes past) = ap₂ _||_ (ne-eqb v 0 (λ z. omega arith)) (and-fails-l (leb v 64) _ (lt-leb v 64 past)) ∙ sym (names-none m v past)
+    go (yes some) (no past) =
+        let e : (v % 64 + 63) % 64 ≡ v - 1 = omega arith in
+        ap₂ _||_ (ne-eqb v 0 (λ z. omega arith)) (ap₂ _&&_ (le-leb v 64 (omega arith)) (ap (bit m) e))
+        ∙ sym (names-one m v (λ z. omega arith) (omega arith))
 
 -- A mask meets all that is not known exactly if it names something that is not known.
 module _ (known v : ℕ) (hk : known < 2 ^ 64) (hv : v < 2 ^ 64) where
@@ -96,45 +94,17 @@ mask-astray known v = go (eqb v 0)
     go true = refl
     go false = refl
 
--- A cell outside its order's tasks is bad ..
-pub outside-order : {inOrder : Bool} (R S v : ℕ) → inOrder ≡ false → badCell inOrder R S v ≡ true
-unfolding badCell
-outside-order {inOrder} R S v e = or-in-l (not inOrder) _ (ap not e)
+-- A cell is judged at once: it is not 0, and one of the tests of a bad cell holds.
+pub judged-at-once : (v : ℕ) (bad : Bool) → (not (eqb v 0) && bad) ≡ (elim (eqb v 0) as (λ (x : Bool). Bool) [ true ↦ false | false ↦ bad ])
+judged-at-once v bad = go (eqb v 0)
+  where
+    go : (t : Bool) → (not t && bad) ≡ (elim t as (λ (x : Bool). Bool) [ true ↦ false | false ↦ bad ])
+    go true = refl
+    go false = refl
 
--- .. and one of its tasks by its tests, in the order of the scan:
-module _ (R S v : ℕ) where
-  -- it is bad without a role of 1 to 64,
-  pub no-role : hasRole v ≡ false → true ≡ badCell true R S v
-  unfolding badCell
-  no-role e = go (decLt 0 (roleIn v)) (decLt 64 (roleIn v))
-    where
-      go : Dec (0 < roleIn v) → Dec (64 < roleIn v) → true ≡ badCell true R S v
-      go (no z) past =
-          let none : roleIn v ≡ 0 = omega arith in
-          sym (or-in-r (not (names R (roleIn v))) _ (or-in-r (not (names S (subjectIn v))) _ (eq-eqb (roleIn v) 0 none)))
-      go (yes some) (yes past) = sym (or-in-l (not (names R (roleIn v))) _ (ap not (names-none R (roleIn v) past)))
-      go (yes some) (no past) = absurd (not-both _ (and-in (lt-ltb 0 (roleIn v) some) (le-leb (roleIn v) 64 (omega arith))) e)
-
-  -- and with a role that is not known;
-  pub unknown-role : names R (roleIn v) ≡ false → true ≡ badCell true R S v
-  unfolding badCell
-  unknown-role e = sym (or-in-l (not (names R (roleIn v))) _ (ap not e))
-
-  -- where it is none of these, the subject decides.
-  pub by-subject : (roleIn v ≡ 0 → ⊥) → names R (roleIn v) ≡ true → not (names S (subjectIn v)) ≡ badCell true R S v
-  unfolding badCell
-  by-subject n f = sym ((λ i. not (f i) || (not (names S (subjectIn v)) || ne-eqb (roleIn v) 0 n i)) ∙ or-none (not (names S (subjectIn v))))
-
--- Where v stands in a cell, and is not 0, and m is what the order has:
-module _ (d : Book) (p t : ℕ) {v m : ℕ} (hp : p < 64) (ht : t < 64) (e : v ≡ d .cell p t) (some : v ≡ 0 → ⊥) (q : m ≡ d .row orders p) where
-  -- of a task outside the order the cell is bad,
-  pub strayed : bit m t ≡ false → cellBad d p t ≡ true
-  unfolding badCellAt
-  strayed out = bad-cell d p t hp ht ∙ some-word _ e some ∙ outside-order (roles d) (subjects d) (d .cell p t) (ap (λ (x : ℕ). bit x t) (sym q) ∙ out)
-
-  -- and of a task of the order it is judged by what stands there.
-  pub judged : bit m t ≡ true → cellBad d p t ≡ badCell true (roles d) (subjects d) v
-  unfolding badCellAt
-  judged inside =
-      bad-cell d p t hp ht ∙ some-word _ e some
-      ∙ ap₂ (λ (s : Bool) (x : ℕ). badCell s (roles d) (subjects d) x) (ap (λ (x : ℕ). bit x t) (sym q) ∙ inside) (sym e)
+-- What stands in the cell of order p and task t is judged, where m is what the order has, and R and S the roles and subjects of the book.
+pub cell-judged : (d : Book) (p t : ℕ) {v m R S : ℕ} {s r : Bool} → p < 64 → t < 64 → r ≡ wordBad s R S v → s ≡ bit m t → v ≡ d .cell p t
+    → m ≡ d .row orders p → R ≡ roles d → S ≡ subjects d → r ≡ cellBad d p t
+unfolding badCellAt
+cell-judged d p t hp ht a b e q f g =
+    a ∙ (λ i. wordBad ((b ∙ ap (λ (x : ℕ). bit x t) q) i) (f i) (g i) (e i)) ∙ sym (bad-cell d p t hp ht)

@@ -1,9 +1,9 @@
 -- Bad words by blocks of 64: the rows of a table, the cells of an order.
-use mathlib.Core.Bool.{Bool, true, false, _&&_}
+use mathlib.Core.Bool.{Bool, true, false}
 use Prim.Native.Nat.{ℕ, _+_, _-_, _*_, _^_}
-use lib.Dec.{eqb, ltb, leb}
+use lib.Dec.{eqb}
 use Rattle.sets.specs.Mask.{bit, joined}
-use Rattle.rules.specs.Book.{Book, tableAt, cellsAt, active, roleIn, badMask, badActive, bad}
+use Rattle.rules.specs.Book.{Book, tableAt, cellsAt, active, badMask, badActive, badCell, bad}
 
 -- the word of row r of table n is bad
 abbrev pub rowBad : Book → ℕ → ℕ → Bool
@@ -21,9 +21,9 @@ maskBad d n owners known r = elim (eqb (d .row n r) 0) [ true ↦ false | false 
 abbrev pub activeBad : Book → ℕ → ℕ → ℕ → Bool
 activeBad d subjects roles r = elim (eqb (d .row active r) 0) [ true ↦ false | false ↦ badActive (bit subjects r) roles (d .row active r) ]
 
--- E of cell v is 1 to 64.
-abbrev pub hasRole : ℕ → Bool
-hasRole v = ltb 0 (roleIn v) && leb (roleIn v) 64
+-- v is not 0, and bad in a cell; `inOrder` says whether the order has the cell's task.
+abbrev pub wordBad : Bool → ℕ → ℕ → ℕ → Bool
+wordBad inOrder roles subjects v = elim (eqb v 0) [ true ↦ false | false ↦ badCell inOrder roles subjects v ]
 
 -- All cells of order p, joined.
 abbrev pub joinedCells : Book → ℕ → ℕ

@@ -1,23 +1,18 @@
 // Bad words, block by block: the rows of each table, the cells of each order, and the lowest word that may not stand where it stands.
 ghost use mathlib.Core.Path.{_≡_};
-ghost use mathlib.Core.Bool.{true};
+ghost use mathlib.Core.Bool.{not};
 ghost use Prim.Native.Nat.{_<_};
-ghost use Rattle.sets.specs.Search.{lowest};
-ghost use Rattle.rules.specs.Book.{tableCount, orders, names, badActive, badCell, firstBad};
+ghost use Rattle.sets.specs.Search.{lowest, all};
+ghost use Rattle.rules.specs.Book.{tableCount, orders, names, badActive, firstBad};
 ghost use Rattle.book.specs.Slice.{tables, Full};
-ghost use Rattle.scan.specs.Blocks.{hasRole, maskBad, activeBad, rowBad, cellBad, joinedCells};
+ghost use Rattle.scan.specs.Blocks.{wordBad, maskBad, activeBad, rowBad, cellBad, joinedCells};
 
-// Whether v is 0, or one more than a number of the set.
+// Whether v is 0, or one more than a number of the set. What is above 64 is looked up too, at the place of another number, and does not
+// count: so there is no branch.
 fn is_in(set: u64, v: u64) -> bool
     ensures { λ r. ⌜ r ≡ names set v ⌝ }
 {
-    if v == 0 {
-        return true;
-    }
-    if v > 64 {
-        return false;
-    }
-    sets::has(set, v - 1)
+    (v == 0) | ((v <= 64) & sets::has(set, (v % 64 + 63) % 64))
 }
 
 // Whether an active role is bad: its subject is undefined, or no known role has this number.
@@ -27,24 +22,13 @@ fn is_bad_active(defined: bool, known: u64, v: u64) -> bool
     !defined | !is_in(known, v)
 }
 
-// Whether E of a cell is one more than a number of 0 to 63. Asked of the whole word, that is two tests and no division.
-fn has_role(v: u64) -> bool
-    ensures { λ r. ⌜ r ≡ hasRole v ⌝ }
+// Whether v is bad in a cell: one of 0 never is. All is asked at once, since a branch for each test costs more.
+fn is_bad_cell(in_order: bool, roles: u64, subjects: u64, v: u64) -> bool
+    ensures { λ r. ⌜ r ≡ wordBad in_order roles subjects v ⌝ }
 {
-    (v >= book::cell_of(1, 0)) & (v <= book::cell_of(64, 127))
-}
-
-// Whether a cell of one of the order's tasks is bad. One that is not 0 has a role, since a subject never stands there alone.
-fn is_bad_cell(roles: u64, subjects: u64, v: u64) -> bool
-    ensures { λ r. ⌜ r ≡ badCell true roles subjects v ⌝ }
-{
-    if !has_role(v) {
-        return true;
-    }
-    if !sets::has(roles, book::role_in(v) - 1) {
-        return true;
-    }
-    !is_in(subjects, book::subject_in(v))
+    let role = book::role_in(v);
+    let subject = book::subject_in(v);
+    (v != 0) & (!in_order | (!is_in(roles, role) | (!is_in(subjects, subject) | (role == 0))))
 }
 
 // Whether row r of a table of masks is bad: of an undefined owner any but 0 is, of a defined one what names something that is not known.
@@ -119,35 +103,48 @@ fn joined_cells(book: &[u64], order: u64) -> u64
     any
 }
 
-// The lowest bad cell of an order with these tasks; 64 where there is none. A cell of 0 is never bad, and what is as the last good one
-// needs no second look: cells of tasks that are bound are alike.
+// Whether a cell of an order with these tasks is bad: each is asked, whatever the others are.
+fn has_bad_cell(book: &[u64], order: u64, tasks: u64) -> bool
+    requires { ⌜ Full (now book) × (order < 64) × (tasks ≡ (tables (now book)) .row orders order) ⌝ }
+    ensures { λ r. ⌜ r ≡ not (all 64 (λ t. not (cellBad (tables (now (book .entry))) order t))) ⌝ }
+{
+    let roles = book::head(book, book::ROLES);
+    let subjects = book::head(book, book::SUBJECTS);
+    let mut bad = false;
+    for t in 0..64 {
+        bad = bad
+            | is_bad_cell(
+                sets::has(tasks, t),
+                roles,
+                subjects,
+                book::cell(book, order, t),
+            );
+    }
+    bad
+}
+
+// The lowest bad cell of an order with these tasks; 64 where there is none.
 fn bad_cell_among(book: &[u64], order: u64, tasks: u64) -> u64
     requires { ⌜ Full (now book) × (order < 64) × (tasks ≡ (tables (now book)) .row orders order) ⌝ }
     ensures { λ v. ⌜ v ≡ lowest (cellBad (tables (now (book .entry))) order) ⌝ }
 {
     let roles = book::head(book, book::ROLES);
     let subjects = book::head(book, book::SUBJECTS);
-    let mut good = 0;
     for t in 0..64 {
-        let v = book::cell(book, order, t);
-        if v == 0 {
-            continue;
-        }
-        if !sets::has(tasks, t) {
+        if is_bad_cell(
+            sets::has(tasks, t),
+            roles,
+            subjects,
+            book::cell(book, order, t),
+        ) {
             return t;
         }
-        if v == good {
-            continue;
-        }
-        if is_bad_cell(roles, subjects, v) {
-            return t;
-        }
-        good = v;
     }
     64
 }
 
-// The lowest bad cell of an order; 64 where there is none. Most orders are closed, and then all their cells are 0.
+// The lowest bad cell of an order; 64 where there is none. Most orders are closed, and then all their cells are 0; of the others it is
+// looked up which cell is bad only where one is.
 fn bad_cell_in(book: &[u64], order: u64) -> u64
     requires { ⌜ Full (now book) × (order < 64) ⌝ }
     ensures { λ v. ⌜ v ≡ lowest (cellBad (tables (now (book .entry))) order) ⌝ }
@@ -157,6 +154,9 @@ fn bad_cell_in(book: &[u64], order: u64) -> u64
         if joined_cells(book, order) == 0 {
             return 64;
         }
+    }
+    if !has_bad_cell(book, order, tasks) {
+        return 64;
     }
     bad_cell_among(book, order, tasks)
 }

@@ -1,29 +1,22 @@
--- Where v is not 0, what it names is one below it.
-use mathlib.Core.Path.{sym, _∙_}
-use native.Mathlib.Omega.{arith}
-use Rattle.rules.specs.Book.{names}
-use Rattle.scan.proofs.BadLaws.{names-none, names-one}
+-- Looked up at once.
+use mathlib.Core.Path.{ap, _∙_}
+use mathlib.Core.Bool.{Bool, _&&_, _||_}
+use lib.Dec.{eqb, leb}
+use Rattle.scan.proofs.BadLaws.{names-by}
 use borrow.Author.Needs.{needs}
 use Rattle.scan.proofs.is_in.Statement.{statement}
 use Rattle.scan.proofs.is_in.Tie as tie
 
-returns : tie.Need-returns
-unfolding names
-returns c = rw (c .if1 .taken)
-
-returns-2 : tie.Need-returns-2
-returns-2 c = let s = c .before .before .args in sym (names-none (s .set) (s .v) (omega arith))
-
-sub-has : tie.Need-sub-has
-sub-has c = search needs
+add-has : tie.Need-add-has
+add-has c = search needs
 
 has-requires : tie.Need-has-requires
 has-requires c κs = search needs
 
-returns-3 : tie.Need-returns-3
-returns-3 c =
-    let s = c .before .before .before .args in
-    c .has .ensures ∙ sym (names-one (s .set) (s .v) (c .before .before .if1 .left) (omega arith))
+returns : tie.Need-returns
+returns c =
+    let s = c .before .args in
+    ap (λ (t : Bool). eqb (s .v) 0 || (leb (s .v) 64 && t)) (c .has .ensures) ∙ names-by (s .set) (s .v)
 
 pub is-in-spec : {M : Type 1} → statement M
-is-in-spec = tie.close (tie.spec returns returns-2 sub-has has-requires returns-3)
+is-in-spec = tie.close (tie.spec add-has has-requires returns)
