@@ -13,7 +13,7 @@ const char *const book_tells[BOOKS] = {
     "64 of everything, rows nearly as full as the audit allows, 64 orders of all tasks, allocated but for 16 tasks of order 0",
     "64 of everything, one chain of 64 roles and one of 63 tasks, 64 orders of all tasks, allocated but for order 0"};
 
-enum { TASK = 1, ROLE, SUBJECT, SME, DME, RB, SB, GIVE_TASK, JUNIOR, GIVE_ROLE, ACTIVATE, OPEN, ALLOCATE };
+enum { TASK = 1, ROLE, SUBJECT, SME, DME, RB, SB, GIVE_TASK, JUNIOR, GIVE_ROLE, ACTIVATE, OPEN, ALLOCATE, TAKE_ROLE = 17 };
 
 static u64 *book;
 static putting *put;
@@ -85,6 +85,18 @@ static void book_cell(void)
     for (u64 t = 0; t < 20; t++) step(GIVE_TASK, t, t < 18 ? t / 3 : t - 12, 0);
     for (u64 r = 0; r < 6; r++) step(JUNIOR, r, r < 3 ? 6 : 7, 0);
     for (u64 s = 0; s < 12; s++) staff(s < 8 ? s : s % 2 ? 7 : 6, s);
+    /* Two help on the other line: they own tasks that no one role owns, so some requests are refused for a subject alone. */
+    step(GIVE_ROLE, 5, 0, 0);
+    step(GIVE_ROLE, 3, 1, 0);
+}
+
+/* One changes the line in the midst of an order, with a task in hand that excludes one there; one acts in a role that was taken back. */
+static void change_shift(void)
+{
+    step(ALLOCATE, 18, 0, 6);
+    step(TAKE_ROLE, 6, 6, 0);
+    staff(7, 6);
+    step(TAKE_ROLE, 5, 5, 0);
 }
 
 static void orders_cell(void)
@@ -95,6 +107,7 @@ static void orders_cell(void)
             for (u64 s = 0; s < 12; s++)
                 if (ask(ALLOCATE, t, p, (s + p) % 12)) break;
     }
+    change_shift();
 }
 
 /* ---- dense rows: two halves that exclude each other, each of two blocks bound in themselves */
@@ -128,38 +141,58 @@ static void orders_dense(void)
     }
 }
 
-/* ---- long chains: each role has the next lower one as its only junior, each subject the highest; task 63 stands alone */
+/* ---- long chains: each role has the next lower one as its only junior, each subject the highest; the last task stands alone */
+
+static u64 length = 64;
+
+u64 chain_lack(int size) { return 5 * (u64)size / 64; }
 
 static void book_long(void)
 {
-    define(64, 64, 64);
-    for (u64 t = 0; t < 62; t++) step(SB, t, t + 1, 0);
-    for (u64 t = 0; t < 61; t++) step(t < 31 ? SME : DME, t, 63, 0);
-    for (u64 r = 0; r < 64; r++)
-        for (u64 t = 0; t < 63; t++)
-            if (r != 5 || t != 1) step(GIVE_TASK, t, r, 0);
-    for (u64 r = 1; r < 64; r++) step(JUNIOR, r - 1, r, 0);
-    for (u64 s = 0; s < 64; s++) staff(63, s);
+    u64 last = length - 1;
+    define(length, length, length);
+    for (u64 t = 0; t + 1 < last; t++) step(SB, t, t + 1, 0);
+    for (u64 t = 0; t + 2 < last; t++) step(t < last / 2 ? SME : DME, t, last, 0);
+    for (u64 r = 0; r < length; r++)
+        for (u64 t = 0; t < last; t++)
+            if (r != chain_lack((int)length) || t != 1) step(GIVE_TASK, t, r, 0);
+    for (u64 r = 1; r < length; r++) step(JUNIOR, r - 1, r, 0);
+    for (u64 s = 0; s < length; s++) staff(last, s);
 }
 
 static void orders_long(void)
 {
-    for (u64 p = 0; p < 64; p++) {
-        step(OPEN, p, 0, UINT64_MAX);
-        if (p) step(ALLOCATE, p % 63, p, p);
+    for (u64 p = 0; p < length; p++) {
+        step(OPEN, p, 0, UINT64_MAX >> (64 - length));
+        if (p) step(ALLOCATE, p % (length - 1), p, p);
     }
+}
+
+/* ---- making them */
+
+static int make(void tables(void), void orders(void), putting *with, u64 *closed, u64 *open)
+{
+    refused = 0;
+    put = with;
+    book = closed;
+    tables();
+    for (int i = 0; i < WORDS; i++) open[i] = closed[i];
+    book = open;
+    orders();
+    return refused;
 }
 
 int make_books(int n, putting *with, u64 *closed, u64 *open)
 {
     static void (*const tables[BOOKS])(void) = {book_b, book_cell, book_dense, book_long};
     static void (*const orders[BOOKS])(void) = {orders_b, orders_cell, orders_dense, orders_long};
-    refused = 0;
-    put = with;
-    book = closed;
-    tables[n]();
-    for (int i = 0; i < WORDS; i++) open[i] = closed[i];
-    book = open;
-    orders[n]();
-    return refused;
+    length = 64;
+    return make(tables[n], orders[n], with, closed, open);
+}
+
+int make_chain(int size, putting *with, u64 *closed, u64 *open)
+{
+    length = (u64)size;
+    for (int i = 0; i < WORDS; i++) closed[i] = 0;
+    return make(book_long, orders_long, with, closed, open);
 }

@@ -16,4 +16,8 @@ typedef int putting(uint64_t *book, uint64_t kind, uint64_t a, uint64_t b, uint6
 /* Makes book n of a blank one, first without orders, then with them, by requests that have to be accepted; returns how many weren't. */
 int make_books(int n, putting *with, uint64_t *closed, uint64_t *open);
 
+/* The same of the book `long` with fewer of everything, 4 to 64; the role to which kind 8 can still give task 1 there. */
+int make_chain(int size, putting *with, uint64_t *closed, uint64_t *open);
+uint64_t chain_lack(int size);
+
 #endif

@@ -1,6 +1,7 @@
 /*
  * The duty book in plain C, written by hand from document 01 with M-100 and M-101: sets are masks, a loop visits only the members of a
- * mask, and a closure reads each row once. It proves nothing; bench/measure.c holds the library to its answers and to its speed.
+ * mask, a closure reads each row once, and what the answer does not need is not looked for. It proves nothing; bench/run holds the library
+ * to its answers and to its speed.
  */
 #include "plain.h"
 
@@ -34,16 +35,24 @@ static u64 one(u64 i) { return (u64)1 << i; }
 static int has(u64 set, u64 i) { return set >> i & 1; }
 static u64 lowest(u64 set) { return (u64)__builtin_ctzll(set); }
 
-/* for each member i of a set, from the lowest */
-#define EACH(i, set) for (u64 i##_left = (set), i; i##_left && (i = lowest(i##_left), 1); i##_left &= i##_left - 1)
+/* Takes the lowest member out of a set; 0 where there is none. A loop over a set takes them out of a copy, until nothing is left. */
+static int take(u64 *set, u64 *member)
+{
+    if (*set == 0) return 0;
+    *member = lowest(*set);
+    *set &= *set - 1;
+    return 1;
+}
 
 /* ---- bad words */
 
-/* the lowest bad row of a table, or WORDS */
+/* the lowest bad row of a table, or WORDS: a row may not name what is unknown, and that of an owner who is not defined may name nothing */
 static u64 bad_row(const u64 *book, u64 table, u64 owners, u64 known)
 {
-    for (u64 r = 0; r < 64; r++)
-        if (book[table + r] & ~(has(owners, r) ? known : 0)) return table + r;
+    for (u64 r = 0; r < 64; r++) {
+        u64 barred = ~known | ((owners >> r & 1) - 1);
+        if (book[table + r] & barred) return table + r;
+    }
     return WORDS;
 }
 
@@ -59,14 +68,26 @@ static u64 bad_active(const u64 *book)
     return WORDS;
 }
 
+/* the 64 cells of an order that is not open: no test between them, so that the compiler reads several at a time */
+static int all_empty(const u64 *cells)
+{
+    u64 any = 0;
+    for (u64 t = 0; t < 64; t++) any |= cells[t];
+    return any == 0;
+}
+
 static u64 bad_cell(const u64 *book)
 {
-    for (u64 p = 0; p < 64; p++)
+    u64 roles = book[ROLES], subjects = book[SUBJECTS];
+    for (u64 p = 0; p < 64; p++) {
+        u64 tasks = book[ORDERS + p], first = CELLS + 64 * p;
+        if (tasks == 0 && all_empty(book + first)) continue;
         for (u64 t = 0; t < 64; t++) {
-            u64 i = CELLS + 64 * p + t, v = book[i];
+            u64 v = book[first + t];
             if (v == 0) continue;
-            if (!has(book[ORDERS + p], t) || v < 128 || !names(book[ROLES], v >> 7) || !names(book[SUBJECTS], v & 127)) return i;
+            if (!has(tasks, t) || v < 128 || !names(roles, v >> 7) || !names(subjects, v & 127)) return first + t;
         }
+    }
     return WORDS;
 }
 
@@ -107,13 +128,13 @@ static u64 role_group(const u64 *book, u64 t) { return spread(book, SB, RB, one(
 static u64 tasks_of(const u64 *book, u64 roles)
 {
     u64 tasks = 0;
-    EACH(r, roles) tasks |= book[TASKS_OF + r];
+    for (u64 left = roles, r; take(&left, &r);) tasks |= book[TASKS_OF + r];
     return tasks;
 }
 
 static u64 owned_tasks(const u64 *book, u64 roles) { return tasks_of(book, below(book, roles)); }
 
-/* ---- refusals 4 to 11 */
+/* ---- refusals 4 to 8 */
 
 enum { UNUSED, RANGE, TASK, ROLE, SUBJECT, OPEN, MASK };
 
@@ -153,25 +174,14 @@ static reply open_order(const u64 *book)
     return say(0, 0, 0);
 }
 
-/* kind 13: 8 to 11 */
-static reply allocate_refusal(const u64 *book, u64 a, u64 b, u64 c)
-{
-    u64 e = book[ACTIVE + c], cell = book[CELLS + 64 * b + a];
-    if (e == 0 || !has(below(book, book[ROLES_OF + c]), e - 1)) return say(8, 0, 0);
-    if (cell & 127) return say(9, (cell & 127) - 1, 0);
-    if (cell && cell >> 7 != e) return say(10, (cell >> 7) - 1, 0);
-    u64 unowned = role_group(book, a) & book[ORDERS + b] & ~owned_tasks(book, one(e - 1));
-    return unowned ? say(11, lowest(unowned), 0) : say(0, 0, 0);
-}
-
 /* where kinds 4 to 7 and 18 to 21 have their bits */
 static u64 pair_table(u64 place) { return SME + 64 * place; }
 
 /* where kinds 8, 9, 10 and 15, 16, 17 have their bit */
 static u64 staff_table(u64 place) { return place == 0 ? TASKS_OF : place == 1 ? JUNIORS : ROLES_OF; }
 
-/* 5 to 11 */
-static reply refusal(const u64 *book, u64 kind, u64 a, u64 b, u64 c)
+/* 5 to 8, of all kinds but 13 */
+static reply refusal(const u64 *book, u64 kind, u64 a, u64 b)
 {
     switch (kind) {
     case 1: case 2: case 3:
@@ -184,8 +194,6 @@ static reply refusal(const u64 *book, u64 kind, u64 a, u64 b, u64 c)
         return say(has(below(book, book[ROLES_OF + b]), a) ? 0 : 8, 0, 0);
     case 12:
         return say(book[ORDERS + a] ? 5 : 0, 0, 0);
-    case 13:
-        return allocate_refusal(book, a, b, c);
     case 15: case 16: case 17:
         return say(has(book[staff_table(kind - 15) + b], a) ? 0 : 6, 0, 0);
     case 18: case 19: case 20: case 21:
@@ -200,7 +208,7 @@ static reply refusal(const u64 *book, u64 kind, u64 a, u64 b, u64 c)
 /* x of xs the lowest that has a partner among ys, then y its lowest partner */
 static reply pair_between(const u64 *book, u64 number, u64 table, u64 xs, u64 ys)
 {
-    EACH(x, xs) {
+    for (u64 left = xs, x; take(&left, &x);) {
         u64 partners = book[table + x] & ys;
         if (partners) return say(number, x, lowest(partners));
     }
@@ -214,9 +222,9 @@ static reply sme_conflict(const u64 *book, u64 a, u64 b)
     if (has(book[DME + a], b)) return say(21, 0, 0);
     if (has(subject_group(book, a), b)) return say(23, 0, 0);
     if (has(role_group(book, a), b)) return say(24, 0, 0);
-    for (u64 r = 0; r < 64; r++)
+    for (u64 left = book[ROLES], r; take(&left, &r);)
         if ((owned_tasks(book, one(r)) & both) == both) return say(25, r, 0);
-    for (u64 s = 0; s < 64; s++)
+    for (u64 left = book[SUBJECTS], s; take(&left, &s);)
         if ((owned_tasks(book, book[ROLES_OF + s]) & both) == both) return say(26, s, 0);
     return say(0, 0, 0);
 }
@@ -242,15 +250,15 @@ static reply binding_conflict(const u64 *book, u64 kind, u64 a, u64 b)
 /* the lowest owned task that is SME to a gained one, or 64 */
 static u64 clash(const u64 *book, u64 owned, u64 gain)
 {
-    EACH(t, owned)
+    for (u64 left = owned, t; take(&left, &t);)
         if (book[SME + t] & gain) return t;
     return 64;
 }
 
-/* 31 or 32: among those, by the roles they start with, that own role b */
+/* 31 of the roles, 32 of the subjects: the lowest that owns role b and a task SME to a gained one */
 static reply owner_clash(const u64 *book, u64 number, u64 b, u64 gain)
 {
-    for (u64 o = 0; o < 64; o++) {
+    for (u64 left = book[number == 31 ? ROLES : SUBJECTS], o; take(&left, &o);) {
         u64 roles = below(book, number == 31 ? one(o) : book[ROLES_OF + o]);
         if (!has(roles, b)) continue;
         u64 t = clash(book, tasks_of(book, roles), gain);
@@ -265,16 +273,7 @@ static reply gain_conflict(const u64 *book, u64 b, u64 gain)
     return r.number ? r : owner_clash(book, 32, b, gain);
 }
 
-static reply allocate_conflict(const u64 *book, u64 a, u64 b, u64 c)
-{
-    u64 held = 0, hand = subject_group(book, a) & book[ORDERS + b];
-    EACH(t, book[ORDERS + b])
-        if ((book[CELLS + 64 * b + t] & 127) == c + 1) held |= one(t);
-    reply r = pair_between(book, 33, SME, held, hand);
-    return r.number ? r : pair_between(book, 34, DME, held, hand);
-}
-
-static reply conflict(const u64 *book, u64 kind, u64 a, u64 b, u64 c)
+static reply conflict(const u64 *book, u64 kind, u64 a, u64 b)
 {
     u64 t;
     switch (kind) {
@@ -289,7 +288,6 @@ static reply conflict(const u64 *book, u64 kind, u64 a, u64 b, u64 c)
     case 10:
         t = clash(book, owned_tasks(book, book[ROLES_OF + b]), owned_tasks(book, one(a)));
         return t < 64 ? say(32, b, t) : say(0, 0, 0);
-    case 13: return allocate_conflict(book, a, b, c);
     default: return say(0, 0, 0);
     }
 }
@@ -300,15 +298,6 @@ static void set_order(u64 *book, u64 p, u64 tasks)
 {
     book[ORDERS + p] = tasks;
     for (u64 t = 0; t < 64; t++) book[CELLS + 64 * p + t] = 0;
-}
-
-static void allocate(u64 *book, u64 a, u64 b, u64 c)
-{
-    u64 roles = role_group(book, a) & book[ORDERS + b], subjects = subject_group(book, a), e = book[ACTIVE + c];
-    EACH(t, roles) {
-        u64 *cell = book + CELLS + 64 * b + t;
-        *cell = e << 7 | (has(subjects, t) ? c + 1 : *cell & 127);
-    }
 }
 
 static void change(u64 *book, u64 kind, u64 a, u64 b, u64 c)
@@ -324,7 +313,6 @@ static void change(u64 *book, u64 kind, u64 a, u64 b, u64 c)
     case 8: case 9: case 10: book[staff_table(kind - 8) + b] |= one(a); break;
     case 11: book[ACTIVE + b] = a + 1; break;
     case 12: set_order(book, a, c); break;
-    case 13: allocate(book, a, b, c); break;
     case 14: set_order(book, a, 0); break;
     case 15: case 16: case 17: book[staff_table(kind - 15) + b] &= ~one(a); break;
     default:
@@ -333,94 +321,161 @@ static void change(u64 *book, u64 kind, u64 a, u64 b, u64 c)
     }
 }
 
+/* ---- kind 13: refusals, conflicts and change go by the same two groups, which are found once */
+
+/* the tasks of an order in the two groups of a task: those that get the role, and those that get the subject as well */
+typedef struct { u64 roles, subjects; } share;
+
+/* 8 to 10 */
+static reply hand_fault(const u64 *book, u64 cell, u64 c)
+{
+    u64 e = book[ACTIVE + c];
+    if (e == 0 || !has(below(book, book[ROLES_OF + c]), e - 1)) return say(8, 0, 0);
+    if (cell & 127) return say(9, (cell & 127) - 1, 0);
+    if (cell && cell >> 7 != e) return say(10, (cell >> 7) - 1, 0);
+    return say(0, 0, 0);
+}
+
+/* 11, then the conflicts 33 and 34 */
+static reply share_fault(const u64 *book, share given, u64 b, u64 c)
+{
+    u64 held = 0, unowned = given.roles & ~owned_tasks(book, one(book[ACTIVE + c] - 1));
+    if (unowned) return say(11, lowest(unowned), 0);
+    for (u64 left = book[ORDERS + b], t; take(&left, &t);)
+        if ((book[CELLS + 64 * b + t] & 127) == c + 1) held |= one(t);
+    reply r = pair_between(book, 33, SME, held, given.subjects);
+    return r.number ? r : pair_between(book, 34, DME, held, given.subjects);
+}
+
+static reply allocate(u64 *book, u64 a, u64 b, u64 c)
+{
+    u64 *cells = book + CELLS + 64 * b, e = book[ACTIVE + c];
+    reply r = hand_fault(book, cells[a], c);
+    if (r.number) return r;
+    share given = {role_group(book, a) & book[ORDERS + b], subject_group(book, a) & book[ORDERS + b]};
+    r = share_fault(book, given, b, c);
+    if (r.number) return r;
+    for (u64 left = given.roles, t; take(&left, &t);) cells[t] = e << 7 | (has(given.subjects, t) ? c + 1 : cells[t] & 127);
+    return r;
+}
+
 /* ---- the audit */
 
-/* rules 1 to 5, of the pair tables */
-static int table_rule_broken(const u64 *book, int rule)
+/* rule 1 */
+static int pairs_with_itself(const u64 *book)
 {
-    for (u64 u = 0; u < 64; u++) {
-        if (rule == 3 && book[SME + u] & book[DME + u]) return 1;
-        if (rule == 4 && book[SME + u] & role_group(book, u)) return 1;
-        if (rule == 5 && book[DME + u] & subject_group(book, u)) return 1;
-        if (rule > 2) continue;
-        for (u64 table = SME; table <= SB; table += 64) {
-            if (rule == 1 && has(book[table + u], u)) return 1;
-            if (rule == 2) EACH(v, book[table + u])
+    for (u64 table = SME; table <= SB; table += 64)
+        for (u64 left = book[TASKS], u; take(&left, &u);)
+            if (has(book[table + u], u)) return 1;
+    return 0;
+}
+
+/* rule 2 */
+static int pairs_one_way(const u64 *book)
+{
+    for (u64 table = SME; table <= SB; table += 64)
+        for (u64 left = book[TASKS], u; take(&left, &u);)
+            for (u64 partners = book[table + u], v; take(&partners, &v);)
                 if (!has(book[table + v], u)) return 1;
-        }
+    return 0;
+}
+
+/* rules 3 to 5; a task that excludes nothing needs no group */
+static int bound_and_excluded(const u64 *book, int rule)
+{
+    for (u64 left = book[TASKS], u; take(&left, &u);) {
+        u64 excluded = book[(rule == 5 ? DME : SME) + u];
+        if (excluded == 0) continue;
+        if (excluded & (rule == 3 ? book[DME + u] : rule == 4 ? role_group(book, u) : subject_group(book, u))) return 1;
     }
     return 0;
 }
 
-/* rules 6 to 8, of roles and subjects */
-static int owner_rule_broken(const u64 *book, int rule)
+/* rule 6 */
+static int reaches_itself(const u64 *book)
 {
-    for (u64 o = 0; o < 64; o++) {
-        if (rule == 6) {
-            if (has(reach(book, o), o)) return 1;
-            continue;
-        }
+    for (u64 left = book[ROLES], r; take(&left, &r);)
+        if (has(reach(book, r), r)) return 1;
+    return 0;
+}
+
+/* rule 7 of the roles, rule 8 of the subjects */
+static int owns_excluding(const u64 *book, int rule)
+{
+    for (u64 left = book[rule == 7 ? ROLES : SUBJECTS], o; take(&left, &o);) {
         u64 owned = owned_tasks(book, rule == 7 ? one(o) : book[ROLES_OF + o]);
         if (clash(book, owned, owned) < 64) return 1;
     }
     return 0;
 }
 
-/* rule 9, of task u in one order */
-static int hands_meet(const u64 *cells, u64 rivals, u64 u)
+/* rule 9, in one order */
+static int hands_meet(const u64 *book, const u64 *cells, u64 tasks)
 {
-    u64 s = cells[u] & 127;
-    if (s == 0) return 0;
-    EACH(v, rivals)
-        if ((cells[v] & 127) == s) return 1;
+    for (u64 left = tasks, u; take(&left, &u);) {
+        u64 s = cells[u] & 127;
+        if (s == 0) continue;
+        for (u64 excluded = (book[SME + u] | book[DME + u]) & tasks, v; take(&excluded, &v);)
+            if ((cells[v] & 127) == s) return 1;
+    }
     return 0;
 }
 
-/* rule 10, of task u in one order */
-static int hands_part(const u64 *cells, u64 subjects, u64 roles, u64 u)
+/* rule 10, in one order */
+static int hands_part(const u64 *book, const u64 *cells, u64 tasks)
 {
-    EACH(v, subjects)
-        if ((cells[v] & 127) != (cells[u] & 127)) return 1;
-    EACH(v, roles)
-        if (cells[v] >> 7 != cells[u] >> 7) return 1;
+    for (u64 left = tasks, u; take(&left, &u);) {
+        for (u64 bound = subject_group(book, u) & tasks, v; take(&bound, &v);)
+            if ((cells[v] & 127) != (cells[u] & 127)) return 1;
+        for (u64 bound = role_group(book, u) & tasks, v; take(&bound, &v);)
+            if (cells[v] >> 7 != cells[u] >> 7) return 1;
+    }
     return 0;
 }
 
-/* rules 9 and 10, of the open orders */
-static int cell_rule_broken(const u64 *book, int rule)
+/* rules 9 and 10, order by order and task by task, as document 01 words them */
+static int order_rule_broken(const u64 *book, int rule)
 {
-    for (u64 u = 0; u < 64; u++) {
-        u64 rivals = book[SME + u] | book[DME + u], subjects = 0, roles = 0;
-        if (rule == 10) subjects = subject_group(book, u), roles = role_group(book, u);
-        for (u64 p = 0; p < 64; p++) {
-            const u64 *cells = book + CELLS + 64 * p;
-            u64 tasks = book[ORDERS + p];
-            if (!has(tasks, u)) continue;
-            if (rule == 9 ? hands_meet(cells, rivals & tasks, u) : hands_part(cells, subjects & tasks, roles & tasks, u)) return 1;
-        }
+    for (u64 p = 0; p < 64; p++) {
+        u64 tasks = book[ORDERS + p];
+        const u64 *cells = book + CELLS + 64 * p;
+        if (tasks && (rule == 9 ? hands_meet(book, cells, tasks) : hands_part(book, cells, tasks))) return 1;
     }
     return 0;
 }
 
 static int broken(const u64 *book, int rule)
 {
-    if (rule < 6) return table_rule_broken(book, rule);
-    if (rule < 9) return owner_rule_broken(book, rule);
-    return cell_rule_broken(book, rule);
+    switch (rule) {
+    case 1: return pairs_with_itself(book);
+    case 2: return pairs_one_way(book);
+    case 3: case 4: case 5: return bound_and_excluded(book, rule);
+    case 6: return reaches_itself(book);
+    case 7: case 8: return owns_excluding(book, rule);
+    default: return order_rule_broken(book, rule);
+    }
 }
 
 /* ---- the two entries */
 
-static reply judge(const u64 *book, size_t words, u64 kind, u64 a, u64 b, u64 c)
+/* 1 to 4 */
+static reply unfit(const u64 *book, size_t words, u64 kind, u64 a, u64 b, u64 c)
 {
     if (words != WORDS) return say(1, 0, 0);
     u64 bad = first_bad(book);
     if (bad < WORDS) return say(2, bad, 0);
     if (kind < 1 || kind > 21) return say(3, 0, 0);
     u64 fault = argument_fault(book, kind, a, b, c);
-    if (fault) return say(4, fault, 0);
-    reply r = refusal(book, kind, a, b, c);
-    return r.number ? r : conflict(book, kind, a, b, c);
+    return say(fault ? 4 : 0, fault, 0);
+}
+
+static reply carry_out(u64 *book, u64 kind, u64 a, u64 b, u64 c)
+{
+    if (kind == 13) return allocate(book, a, b, c);
+    reply r = refusal(book, kind, a, b);
+    if (r.number == 0) r = conflict(book, kind, a, b);
+    if (r.number == 0) change(book, kind, a, b, c);
+    return r;
 }
 
 static reply audit(const u64 *book, size_t words)
@@ -443,9 +498,8 @@ static void put(u64 answer[4], reply r)
 
 void plain_request(u64 *book, size_t words, u64 kind, u64 a, u64 b, u64 c, u64 answer[4])
 {
-    reply r = judge(book, words, kind, a, b, c);
-    if (r.number == 0) change(book, kind, a, b, c);
-    put(answer, r);
+    reply r = unfit(book, words, kind, a, b, c);
+    put(answer, r.number ? r : carry_out(book, kind, a, b, c));
 }
 
 void plain_audit(const u64 *book, size_t words, u64 answer[4]) { put(answer, audit(book, words)); }
