@@ -25,7 +25,8 @@
  *     stack asked for below.
  *   - An answer other than 0 leaves the book as it was, to the last bit.
  *   - It reads and writes the words that you lend, and its own stack, nothing else: no heap, no files, no clock, no global or
- *     thread-local variables. The one name that the archive takes from outside is C's memset, which it calls on words of the book.
+ *     thread-local variables. The one name that the archive takes from outside is C's memset, which it calls on words of the book
+ *     and on its stack.
  *   - An accepted request may write several words, one after the other: they are not one atomic step (see WHAT YOU OWE).
  *     examples/two-copies/ keeps a book whole through power loss.
  *
@@ -43,7 +44,8 @@
  *   - The SSE2 registers are yours to save. The code uses the general registers and xmm0 to xmm15, as any x86-64 compiler may, and
  *     keeps those that System V's rules say (rbx, rbp, r12 to r15). A kernel or an interrupt handler that doesn't save xmm
  *     registers by itself has to do so around a call. It uses no x87, MMX, AVX or later registers, no red zone below the stack
- *     pointer, no system call and no privileged instruction. Your memset comes on top, with what it uses.
+ *     pointer, no system call and no privileged instruction. Its tzcnt is bsf on a processor that has none, with the same effect.
+ *     Your memset comes on top, with what it uses.
  *
  * RE-ENTRANCY. Calls on different books, with different answers, may run at the same time in any number of threads. Audits of one
  * book may run side by side.
@@ -59,7 +61,7 @@
 /* The version of the book and of this library; CHANGELOG.md says when which number moves. */
 #define TOWERPLANK_VERSION_MAJOR 2
 #define TOWERPLANK_VERSION_MINOR 0
-#define TOWERPLANK_VERSION_PATCH 1
+#define TOWERPLANK_VERSION_PATCH 2
 
 /* The same as one number, for #if, and as text. */
 #define TOWERPLANK_VERSION_NUMBER (10000 * TOWERPLANK_VERSION_MAJOR + 100 * TOWERPLANK_VERSION_MINOR + TOWERPLANK_VERSION_PATCH)
@@ -71,7 +73,7 @@
 #define TOWERPLANK_WORDS 4676
 
 /*
- * The bytes of stack to leave for a call. It takes under 2,600 of them: no more was seen to be used (bench/run paints the stack), and
+ * The bytes of stack to leave for a call. It takes under 1,300 of them: no more was seen to be used (bench/run paints the stack), and
  * the frames of its machine code add up to no more (tools/machine-code); the rest is room, for memset too. No theorem says so: a
  * proof speaks of the language's machine. docs/PERFORMANCE.md has both numbers and how they are found.
  */

@@ -5,8 +5,7 @@ type holds >/dev/null 2>&1 || . "$(dirname "${BASH_SOURCE[0]}")/alone"
 room=$(mktemp -d)
 archive=$(tools/library)
 
-# trade::spread goes as deep as the steps that it is given, 64 and falling by one, and once more with none left.
-tools/machine-code "$archive" trade::spread=65 >"$room/code"
+tools/machine-code "$archive" >"$room/code"
 looked=$?
 
 says() { grep -qx "$1" "$room/code" || { grep "^${1%%:*}:" "$room/code"; return 1; }; }
@@ -46,12 +45,14 @@ else
     holds "the library uses the general and the xmm registers" says 'registers: general, xmm'
     holds "the library uses no AVX, x87 and MMX registers" says 'AVX, x87 and MMX registers: none'
     holds "the library uses instructions that every x86-64 has" says 'instructions that not every x86-64 has: none'
+    holds "of what not every x86-64 has, the library has tzcnt alone, which the others run as bsf" says 'instructions that some x86-64 run as bsf: tzcnt'
     holds "the library makes no system call and does nothing privileged" says 'system calls, segments, privileged instructions: none'
     holds "the library uses no red zone" says 'red zone: not used'
     holds "the library needs an aligned stack, as its header asks" says 'accesses that need an aligned stack: some'
     holds "the library calls nothing through a pointer" says 'calls through pointers: none'
     holds "the library can be put anywhere in memory" says 'relocations: R_X86_64_PC32 R_X86_64_PLT32'
     holds "the library takes nothing from outside but memset" says 'taken from outside: memset'
+    holds "no function of the library calls itself" says 'functions that call themselves: none'
     holds "the frames of a call fit TOWERPLANK_STACK, and a quarter is left" leaves_room
     holds "a function that does all that is seen to" sees_greed
     holds "a row of the frame, counted from above 0, is taken for no red zone" sees_no_red_zone
