@@ -10,10 +10,10 @@ use Rattle.sets.specs.Mask.{bit, within, meet}
 use Rattle.sets.proofs.Logic.{and-fails-l, or-in-l, not-both, refute, not-in}
 use Rattle.sets.proofs.MaskLaws.{bit-not, bit-lt, zero-none, within-out, within-in, meet-in}
 use Rattle.sets.proofs.SearchLaws.{meet-out}
-use Rattle.rules.specs.Book.{Book, roles, subjects, orders, names, badMask, badCellAt}
+use Rattle.rules.specs.Book.{Book, roles, subjects, orders, names, badMask, badCell, badCellAt}
 use Rattle.rules.proofs.BookLaws.{chosen, unchosen}
 use Rattle.rules.proofs.WordLaws.{badWord, bad-cell}
-use Rattle.scan.specs.Blocks.{wordBad, cellBad}
+use Rattle.scan.specs.Blocks.{cellBad}
 
 -- The word v is what stands at the place, x:
 module _ {v x : ℕ} (t : Bool) (e : v ≡ x) where
@@ -94,17 +94,14 @@ mask-astray known v = go (eqb v 0)
     go true = refl
     go false = refl
 
--- A cell is judged at once: it is not 0, and one of the tests of a bad cell holds.
-pub judged-at-once : (v : ℕ) (bad : Bool) → (not (eqb v 0) && bad) ≡ (elim (eqb v 0) as (λ (x : Bool). Bool) [ true ↦ false | false ↦ bad ])
-judged-at-once v bad = go (eqb v 0)
-  where
-    go : (t : Bool) → (not t && bad) ≡ (elim t as (λ (x : Bool). Bool) [ true ↦ false | false ↦ bad ])
-    go true = refl
-    go false = refl
+-- The cell of order p and task t, in which v stands: where that is 0, it is good,
+module _ (d : Book) (p t : ℕ) {v : ℕ} (hp : p < 64) (ht : t < 64) (e : v ≡ d .cell p t) where
+  pub zero-cell : v ≡ 0 → cellBad d p t ≡ false
+  zero-cell z = bad-cell d p t hp ht ∙ zero-word _ e z
 
--- What stands in the cell of order p and task t is judged, where m is what the order has, and R and S the roles and subjects of the book.
-pub cell-judged : (d : Book) (p t : ℕ) {v m R S : ℕ} {s r : Bool} → p < 64 → t < 64 → r ≡ wordBad s R S v → s ≡ bit m t → v ≡ d .cell p t
-    → m ≡ d .row orders p → R ≡ roles d → S ≡ subjects d → r ≡ cellBad d p t
-unfolding badCellAt
-cell-judged d p t hp ht a b e q f g =
-    a ∙ (λ i. wordBad ((b ∙ ap (λ (x : ℕ). bit x t) q) i) (f i) (g i) (e i)) ∙ sym (bad-cell d p t hp ht)
+  -- else it is judged, where m is what the order has, and R and S the roles and subjects of the book.
+  pub cell-judged : {m R S : ℕ} {s r : Bool} → (v ≡ 0 → ⊥) → r ≡ badCell s R S v → s ≡ bit m t → m ≡ d .row orders p → R ≡ roles d → S ≡ subjects d
+      → r ≡ cellBad d p t
+  unfolding badCellAt
+  cell-judged some a b q f g =
+      a ∙ (λ i. badCell ((b ∙ ap (λ (x : ℕ). bit x t) q) i) (f i) (g i) (e i)) ∙ sym (some-word _ e some) ∙ sym (bad-cell d p t hp ht)

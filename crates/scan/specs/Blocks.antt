@@ -3,7 +3,7 @@ use mathlib.Core.Bool.{Bool, true, false}
 use Prim.Native.Nat.{ℕ, _+_, _-_, _*_, _^_}
 use lib.Dec.{eqb}
 use Rattle.sets.specs.Mask.{bit, joined}
-use Rattle.rules.specs.Book.{Book, tableAt, cellsAt, active, badMask, badActive, badCell, bad}
+use Rattle.rules.specs.Book.{Book, tableAt, cellsAt, active, badMask, badActive, bad}
 
 -- the word of row r of table n is bad
 abbrev pub rowBad : Book → ℕ → ℕ → Bool
@@ -20,10 +20,6 @@ maskBad d n owners known r = elim (eqb (d .row n r) 0) [ true ↦ false | false 
 -- The active role of subject r is not 0, and bad where these subjects and roles are known.
 abbrev pub activeBad : Book → ℕ → ℕ → ℕ → Bool
 activeBad d subjects roles r = elim (eqb (d .row active r) 0) [ true ↦ false | false ↦ badActive (bit subjects r) roles (d .row active r) ]
-
--- v is not 0, and bad in a cell; `inOrder` says whether the order has the cell's task.
-abbrev pub wordBad : Bool → ℕ → ℕ → ℕ → Bool
-wordBad inOrder roles subjects v = elim (eqb v 0) [ true ↦ false | false ↦ badCell inOrder roles subjects v ]
 
 -- All cells of order p, joined.
 abbrev pub joinedCells : Book → ℕ → ℕ

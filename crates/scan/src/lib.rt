@@ -3,9 +3,9 @@ ghost use mathlib.Core.Path.{_≡_};
 ghost use mathlib.Core.Bool.{not};
 ghost use Prim.Native.Nat.{_<_};
 ghost use Rattle.sets.specs.Search.{lowest, all};
-ghost use Rattle.rules.specs.Book.{tableCount, orders, names, badActive, firstBad};
+ghost use Rattle.rules.specs.Book.{tableCount, orders, names, badActive, badCell, firstBad};
 ghost use Rattle.book.specs.Slice.{tables, Full};
-ghost use Rattle.scan.specs.Blocks.{wordBad, maskBad, activeBad, rowBad, cellBad, joinedCells};
+ghost use Rattle.scan.specs.Blocks.{maskBad, activeBad, rowBad, cellBad, joinedCells};
 
 // Whether v is 0, or one more than a number of the set. What is above 64 is looked up too, at the place of another number, and does not
 // count: so there is no branch.
@@ -22,13 +22,13 @@ fn is_bad_active(defined: bool, known: u64, v: u64) -> bool
     !defined | !is_in(known, v)
 }
 
-// Whether v is bad in a cell: one of 0 never is. All is asked at once, since a branch for each test costs more.
+// Whether a cell is bad in which something stands. All is asked at once, since a branch for each test costs more.
 fn is_bad_cell(in_order: bool, roles: u64, subjects: u64, v: u64) -> bool
-    ensures { λ r. ⌜ r ≡ wordBad in_order roles subjects v ⌝ }
+    ensures { λ r. ⌜ r ≡ badCell in_order roles subjects v ⌝ }
 {
     let role = book::role_in(v);
     let subject = book::subject_in(v);
-    (v != 0) & (!in_order | (!is_in(roles, role) | (!is_in(subjects, subject) | (role == 0))))
+    !in_order | (!is_in(roles, role) | (!is_in(subjects, subject) | (role == 0)))
 }
 
 // Whether row r of a table of masks is bad: of an undefined owner any but 0 is, of a defined one what names something that is not known.
@@ -103,7 +103,7 @@ fn joined_cells(book: &[u64], order: u64) -> u64
     any
 }
 
-// Whether a cell of an order with these tasks is bad: each is asked, whatever the others are.
+// Whether a cell of an order with these tasks is bad. A cell of 0 never is; each other is asked, whatever the ones before were.
 fn has_bad_cell(book: &[u64], order: u64, tasks: u64) -> bool
     requires { ⌜ Full (now book) × (order < 64) × (tasks ≡ (tables (now book)) .row orders order) ⌝ }
     ensures { λ r. ⌜ r ≡ not (all 64 (λ t. not (cellBad (tables (now (book .entry))) order t))) ⌝ }
@@ -112,13 +112,11 @@ fn has_bad_cell(book: &[u64], order: u64, tasks: u64) -> bool
     let subjects = book::head(book, book::SUBJECTS);
     let mut bad = false;
     for t in 0..64 {
-        bad = bad
-            | is_bad_cell(
-                sets::has(tasks, t),
-                roles,
-                subjects,
-                book::cell(book, order, t),
-            );
+        let v = book::cell(book, order, t);
+        if v == 0 {
+            continue;
+        }
+        bad = bad | is_bad_cell(sets::has(tasks, t), roles, subjects, v);
     }
     bad
 }
@@ -131,12 +129,11 @@ fn bad_cell_among(book: &[u64], order: u64, tasks: u64) -> u64
     let roles = book::head(book, book::ROLES);
     let subjects = book::head(book, book::SUBJECTS);
     for t in 0..64 {
-        if is_bad_cell(
-            sets::has(tasks, t),
-            roles,
-            subjects,
-            book::cell(book, order, t),
-        ) {
+        let v = book::cell(book, order, t);
+        if v == 0 {
+            continue;
+        }
+        if is_bad_cell(sets::has(tasks, t), roles, subjects, v) {
             return t;
         }
     }

@@ -1,9 +1,7 @@
 -- The tests of a bad cell, in the order of the definition.
-use mathlib.Core.Path.{_∙_}
-use mathlib.Core.Bool.{_&&_, _||_, not}
+use mathlib.Core.Bool.{_||_, not}
 use lib.Dec.{eqb}
 use Rattle.rules.specs.Book.{badCell}
-use Rattle.scan.proofs.BadLaws.{judged-at-once}
 use borrow.Author.Needs.{needs}
 use Rattle.scan.proofs.is_bad_cell.Statement.{statement}
 use Rattle.scan.proofs.is_bad_cell.Tie as tie
@@ -25,11 +23,9 @@ unfolding badCell
 returns c =
     let s = c .before .before .before .before .args in
     let role = c .before .before .before .role-in .ensures in
-    let subject = c .before .before .subject-in .ensures in
     let known = rw (role) at (c .before .is-in .ensures) in
-    let known-2 = rw (subject) at (c .is-in2 .ensures) in
-    (λ i. not (eqb (s .v) 0) && (not (s .in-order) || (not (known i) || (not (known-2 i) || eqb (role i) 0))))
-    ∙ judged-at-once (s .v) (badCell (s .in-order) (s .roles) (s .subjects) (s .v))
+    let known-2 = rw (c .before .before .subject-in .ensures) at (c .is-in2 .ensures) in
+    λ i. not (s .in-order) || (not (known i) || (not (known-2 i) || eqb (role i) 0))
 
 pub is-bad-cell-spec : {M : Type 1} → statement M
 is-bad-cell-spec = tie.close (tie.spec role-in-requires subject-in-requires is-in-requires is-in-requires-2 returns)
