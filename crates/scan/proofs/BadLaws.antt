@@ -7,13 +7,13 @@ use native.Mathlib.Decide.{decLt}
 use lib.Dec.{eqb, ltb, leb}
 use borrow.Author.Tests.{eq-eqb, ne-eqb, eqb-true, lt-ltb, le-ltb, le-leb, lt-leb, not-false}
 use Rattle.sets.specs.Mask.{bit, within, meet}
-use Rattle.sets.proofs.Logic.{and-fails-l, or-in-l, not-both, refute, not-in}
+use Rattle.sets.proofs.Logic.{and-fails-l, or-in-l, or-none, not-both, refute, not-in}
 use Rattle.sets.proofs.MaskLaws.{bit-not, bit-lt, zero-none, within-out, within-in, meet-in}
 use Rattle.sets.proofs.SearchLaws.{meet-out}
-use Rattle.rules.specs.Book.{Book, roles, subjects, orders, names, badMask, badCell, badCellAt}
+use Rattle.rules.specs.Book.{Book, roles, subjects, orders, cellOf, roleIn, subjectIn, names, badMask, badCell, badCellAt}
 use Rattle.rules.proofs.BookLaws.{chosen, unchosen}
 use Rattle.rules.proofs.WordLaws.{badWord, bad-cell}
-use Rattle.scan.specs.Blocks.{cellBad}
+use Rattle.scan.specs.Blocks.{hasRole, cellBad}
 
 -- The word v is what stands at the place, x:
 module _ {v x : ℕ} (t : Bool) (e : v ≡ x) where
@@ -57,6 +57,50 @@ names-by m v = go (decLt 0 v) (decLt 64 v)
         let e : (v % 64 + 63) % 64 ≡ v - 1 = omega arith in
         ap₂ _||_ (ne-eqb v 0 (λ z. omega arith)) (ap₂ _&&_ (le-leb v 64 (omega arith)) (ap (bit m) e))
         ∙ sym (names-one m v (λ z. omega arith) (omega arith))
+
+-- E of a cell is 1 to 64 exactly where the cell is 128 at least, and below 65 times that.
+pub role-by-word : (v : ℕ) {low high : ℕ} → low ≡ cellOf 1 0 → high ≡ cellOf 64 127 → (leb low v && leb v high) ≡ hasRole v
+role-by-word v {low} {high} a b = ap₂ _&&_ (some (decLt v 128)) (most (decLt 8319 v))
+  where
+    some : Dec (v < 128) → leb low v ≡ ltb 0 (roleIn v)
+    some (yes l) = lt-leb low v (omega arith) ∙ sym (le-ltb 0 (roleIn v) (omega arith))
+    some (no l) = le-leb low v (omega arith) ∙ sym (lt-ltb 0 (roleIn v) (omega arith))
+
+    most : Dec (8319 < v) → leb v high ≡ leb (roleIn v) 64
+    most (yes l) = lt-leb v high (omega arith) ∙ sym (lt-leb (roleIn v) 64 (omega arith))
+    most (no l) = le-leb v high (omega arith) ∙ sym (le-leb (roleIn v) 64 (omega arith))
+
+-- A cell is bad that has no known role of 1 to 64, or whose subject is not known, or that is not of the order's tasks.
+pub bad-by-role : (inOrder : Bool) (R S v : ℕ) → (not inOrder || (not (hasRole v && bit R ((roleIn v % 64 + 63) % 64)) || not (names S (subjectIn v))))
+    ≡ badCell inOrder R S v
+unfolding badCell
+bad-by-role inOrder R S v = ap (λ (t : Bool). not inOrder || t) (go (decLt 0 (roleIn v)))
+  where
+    at : ℕ
+    at = (roleIn v % 64 + 63) % 64
+
+    goal : Type 0
+    goal = (not (hasRole v && bit R at) || not (names S (subjectIn v))) ≡ (not (names R (roleIn v)) || (not (names S (subjectIn v)) || eqb (roleIn v) 0))
+
+    always : (s t : Bool) → (s || (t || true)) ≡ true
+    always true t = refl
+    always false true = refl
+    always false false = refl
+
+    go : Dec (0 < roleIn v) → goal
+    go (no none) =
+        let z : roleIn v ≡ 0 = omega arith in
+        (λ i. not (and-fails-l (hasRole v) (bit R at) (and-fails-l (ltb 0 (roleIn v)) (leb (roleIn v) 64) (le-ltb 0 (roleIn v) (omega arith))) i)
+        || not (names S (subjectIn v)))
+        ∙ sym (ap (λ (t : Bool). not (names R (roleIn v)) || (not (names S (subjectIn v)) || t)) (eq-eqb (roleIn v) 0 z)
+        ∙ always (not (names R (roleIn v))) (not (names S (subjectIn v))))
+    go (yes some) =
+        let known : (hasRole v && bit R at) ≡ names R (roleIn v) =
+        ap₂ (λ (x y : Bool). (x && leb (roleIn v) 64) && y) (lt-ltb 0 (roleIn v) some) refl
+        ∙ ap (λ (t : Bool). t || (leb (roleIn v) 64 && bit R at)) (sym (ne-eqb (roleIn v) 0 (λ z. omega arith))) ∙ names-by R (roleIn v) in
+        ap (λ (t : Bool). not t || not (names S (subjectIn v))) known
+        ∙ ap (λ (t : Bool). not (names R (roleIn v)) || t) (sym (ap (λ (t : Bool). not (names S (subjectIn v)) || t) (ne-eqb (roleIn v) 0 (λ z. omega arith))
+        ∙ or-none (not (names S (subjectIn v)))))
 
 -- A mask meets all that is not known exactly if it names something that is not known.
 module _ (known v : ℕ) (hk : known < 2 ^ 64) (hv : v < 2 ^ 64) where

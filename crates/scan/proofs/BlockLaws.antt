@@ -1,17 +1,17 @@
 -- The scan by blocks of 64 words: the lowest bad word of a block, where no word before it is bad, is the lowest of the book.
 use mathlib.Core.Path.{_≡_, refl, sym, ap, ap₂, _∙_}
-use mathlib.Core.Bool.{Bool, true, false, _||_, not}
+use mathlib.Core.Bool.{Bool, true, false}
 use Prim.Native.Nat.{ℕ, zero, suc, _+_, _-_, _^_, _≤_, _<_}
 use native.Mathlib.Omega.{arith}
 use native.Mathlib.Decide.{decLt}
 use lib.Dec.{eqb}
 use lib.ListN.{getD}
 use lib.Bits.{bitOr, or-add-and, and-le-l, and-le-r}
-use borrow.Author.Tests.{ne-eqb, not-true, not-false}
+use borrow.Author.Tests.{ne-eqb}
 use Rattle.sets.specs.Mask.{bit, only, joined}
-use Rattle.sets.specs.Search.{lowestFrom, lowest, all}
+use Rattle.sets.specs.Search.{lowestFrom, lowest}
 use Rattle.sets.proofs.MaskLaws.{in-full, only-yes}
-use Rattle.sets.proofs.SearchLaws.{lowest-passes, lowest-first, lowest-is, lowest-same, lowest-end, all-out}
+use Rattle.sets.proofs.SearchLaws.{lowest-passes, lowest-first, lowest-is, lowest-same}
 use Rattle.rules.specs.Book.{Book, bookWords, headWords, tableCount, tasks, roles, subjects, active}
 use Rattle.rules.specs.Book.{badMask, badActive, RowTest, masks, actives, orderMasks, rowTests, badRow, bad, firstBad}
 use Rattle.rules.proofs.WordLaws.{badWord, bad-head, bad-row}
@@ -129,19 +129,3 @@ cells-none f (suc n) h e t l = go (decLt t n) (λ z q. cells-none f n (omega ari
     go (no q) before =
         let at : t ≡ n = omega arith in
         let none : last ≡ 0 = omega (arith, e, or-add-and some last, and-le-l some last) in ap f at ∙ sym (only-yes _ (f n) (in-full n (omega arith))) ∙ none
-
--- As a loop finds out whether any number below 64 passes f, and asks them all.
-pub any-on : (f : ℕ → Bool) (t : ℕ) {any now : Bool} → any ≡ not (all t (λ k. not (f k))) → now ≡ f t → (any || now) ≡ not (all (t + 1) (λ k. not (f k)))
-unfolding all
-any-on f t e q =
-    let next : suc t ≡ t + 1 = omega arith in
-    ap₂ _||_ e q ∙ go (all t (λ k. not (f k))) (f t) ∙ ap (λ (n : ℕ). not (all n (λ k. not (f k)))) next
-  where
-    go : (s u : Bool) → (not s || u) ≡ not (elim s as (λ (x : Bool). Bool) [ true ↦ not u | false ↦ false ])
-    go true true = refl
-    go true false = refl
-    go false u = refl
-
--- Where none does, a search for one comes to its end.
-pub any-none : (f : ℕ → Bool) {any : Bool} → any ≡ not (all 64 (λ k. not (f k))) → any ≡ false → 64 ≡ lowest f
-any-none f e none = lowest-end 64 f (λ k l. not-true (f k) (all-out 64 (λ i. not (f i)) (not-false (all 64 (λ i. not (f i))) (sym e ∙ none)) k l))

@@ -1,11 +1,10 @@
 // Bad words, block by block: the rows of each table, the cells of each order, and the lowest word that may not stand where it stands.
 ghost use mathlib.Core.Path.{_≡_};
-ghost use mathlib.Core.Bool.{not};
 ghost use Prim.Native.Nat.{_<_};
-ghost use Rattle.sets.specs.Search.{lowest, all};
+ghost use Rattle.sets.specs.Search.{lowest};
 ghost use Rattle.rules.specs.Book.{tableCount, orders, names, badActive, badCell, firstBad};
 ghost use Rattle.book.specs.Slice.{tables, Full};
-ghost use Rattle.scan.specs.Blocks.{maskBad, activeBad, rowBad, cellBad, joinedCells};
+ghost use Rattle.scan.specs.Blocks.{hasRole, maskBad, activeBad, rowBad, cellBad, joinedCells};
 
 // Whether v is 0, or one more than a number of the set. What is above 64 is looked up too, at the place of another number, and does not
 // count: so there is no branch.
@@ -22,13 +21,20 @@ fn is_bad_active(defined: bool, known: u64, v: u64) -> bool
     !defined | !is_in(known, v)
 }
 
-// Whether a cell is bad in which something stands. All is asked at once, since a branch for each test costs more.
+// Whether E of a cell is one more than a number of 0 to 63. Asked of the whole word, that is two tests and no division.
+fn has_role(v: u64) -> bool
+    ensures { λ r. ⌜ r ≡ hasRole v ⌝ }
+{
+    (v >= book::cell_of(1, 0)) & (v <= book::cell_of(64, 127))
+}
+
+// Whether a cell is bad in which something stands: it has a role then, since a subject never stands there alone. All is asked at once, since a
+// branch for each test costs more; without a role the number that is looked up does not count.
 fn is_bad_cell(in_order: bool, roles: u64, subjects: u64, v: u64) -> bool
     ensures { λ r. ⌜ r ≡ badCell in_order roles subjects v ⌝ }
 {
-    let role = book::role_in(v);
-    let subject = book::subject_in(v);
-    !in_order | (!is_in(roles, role) | (!is_in(subjects, subject) | (role == 0)))
+    let known = has_role(v) & sets::has(roles, (book::role_in(v) % 64 + 63) % 64);
+    !in_order | (!known | !is_in(subjects, book::subject_in(v)))
 }
 
 // Whether row r of a table of masks is bad: of an undefined owner any but 0 is, of a defined one what names something that is not known.
@@ -103,25 +109,7 @@ fn joined_cells(book: &[u64], order: u64) -> u64
     any
 }
 
-// Whether a cell of an order with these tasks is bad. A cell of 0 never is; each other is asked, whatever the ones before were.
-fn has_bad_cell(book: &[u64], order: u64, tasks: u64) -> bool
-    requires { ⌜ Full (now book) × (order < 64) × (tasks ≡ (tables (now book)) .row orders order) ⌝ }
-    ensures { λ r. ⌜ r ≡ not (all 64 (λ t. not (cellBad (tables (now (book .entry))) order t))) ⌝ }
-{
-    let roles = book::head(book, book::ROLES);
-    let subjects = book::head(book, book::SUBJECTS);
-    let mut bad = false;
-    for t in 0..64 {
-        let v = book::cell(book, order, t);
-        if v == 0 {
-            continue;
-        }
-        bad = bad | is_bad_cell(sets::has(tasks, t), roles, subjects, v);
-    }
-    bad
-}
-
-// The lowest bad cell of an order with these tasks; 64 where there is none.
+// The lowest bad cell of an order with these tasks; 64 where there is none. A cell of 0 is never bad.
 fn bad_cell_among(book: &[u64], order: u64, tasks: u64) -> u64
     requires { ⌜ Full (now book) × (order < 64) × (tasks ≡ (tables (now book)) .row orders order) ⌝ }
     ensures { λ v. ⌜ v ≡ lowest (cellBad (tables (now (book .entry))) order) ⌝ }
@@ -140,8 +128,7 @@ fn bad_cell_among(book: &[u64], order: u64, tasks: u64) -> u64
     64
 }
 
-// The lowest bad cell of an order; 64 where there is none. Most orders are closed, and then all their cells are 0; of the others it is
-// looked up which cell is bad only where one is.
+// The lowest bad cell of an order; 64 where there is none. Most orders are closed, and then all their cells are 0.
 fn bad_cell_in(book: &[u64], order: u64) -> u64
     requires { ⌜ Full (now book) × (order < 64) ⌝ }
     ensures { λ v. ⌜ v ≡ lowest (cellBad (tables (now (book .entry))) order) ⌝ }
@@ -151,9 +138,6 @@ fn bad_cell_in(book: &[u64], order: u64) -> u64
         if joined_cells(book, order) == 0 {
             return 64;
         }
-    }
-    if !has_bad_cell(book, order, tasks) {
-        return 64;
     }
     bad_cell_among(book, order, tasks)
 }
