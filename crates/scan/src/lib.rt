@@ -7,7 +7,7 @@ ghost use Rattle.book.specs.Slice.{tables, Full};
 ghost use Rattle.scan.specs.Blocks.{hasRole, maskBad, activeBad, rowBad, cellBad, joinedCells};
 
 // Whether v is 0, or one more than a number of the set. What is above 64 is looked up too, at the place of another number, and does not
-// count: so there is no branch.
+// count: so the tests can be joined.
 fn is_in(set: u64, v: u64) -> bool
     ensures { λ r. ⌜ r ≡ names set v ⌝ }
 {
@@ -28,8 +28,8 @@ fn has_role(v: u64) -> bool
     (v >= book::cell_of(1, 0)) & (v <= book::cell_of(64, 127))
 }
 
-// Whether a cell is bad in which something stands: it has a role then, since a subject never stands there alone. All is asked at once, since a
-// branch for each test costs more; without a role the number that is looked up does not count.
+// Whether a cell is bad in which something stands: it has a role then, since a subject never stands there alone. The tests are joined,
+// since the compiler makes fewer branches of that; without a role the number that is looked up does not count.
 fn is_bad_cell(in_order: bool, roles: u64, subjects: u64, v: u64) -> bool
     ensures { λ r. ⌜ r ≡ badCell in_order roles subjects v ⌝ }
 {
