@@ -1,4 +1,4 @@
--- An answer is known by its number, x and y: no two cases of the enum are said alike.
+-- An answer is known by its number, x, y and z: no two cases of the enum are said alike.
 use mathlib.Core.Path.{_≡_, refl, sym, ap, _∙_}
 use mathlib.Core.Bool.{true, false}
 use mathlib.Core.List.{List, [], _∷_}
@@ -46,8 +46,8 @@ conflicts =
     ∷ (λ r. Cycle)
     ∷ (λ r. TaskAssignment (r .x) (r .y))
     ∷ (λ r. RoleAssignment (r .x) (r .y))
-    ∷ (λ r. HoldsSme (r .x) (r .y))
-    ∷ (λ r. HoldsDme (r .x) (r .y))
+    ∷ (λ r. HoldsSme (r .x) (r .y) (r .z))
+    ∷ (λ r. HoldsDme (r .x) (r .y) (r .z))
     ∷ []
 
 -- The case that is said so.
@@ -86,8 +86,8 @@ back SelfInheritance = refl
 back Cycle = refl
 back (TaskAssignment x y) = refl
 back (RoleAssignment x y) = refl
-back (HoldsSme x y) = refl
-back (HoldsDme x y) = refl
+back (HoldsSme x y z) = refl
+back (HoldsDme x y z) = refl
 
 -- Two answers that are said alike are one.
 pub said-injective : (p q : Answer) → said p ≡ said q → p ≡ q

@@ -1,5 +1,5 @@
--- Document 01, "The numbers that come back": the number, x and y of each case of the code's answer.
-use Rattle.rules.specs.Numbers.{Said, accepted, say, sayX, sayXY}
+-- Document 01, "The numbers that come back": the number, x, y and z of each case of the code's answer.
+use Rattle.rules.specs.Numbers.{Said, accepted, say, sayX, sayXY, sayXYZ}
 use Rattle.answers.specs.declared.Answer.{Answer}
 use Rattle.answers.specs.declared.Answer.the-variants.{Accepted, WrongLength, BadWord, UnknownKind, BadArgument, AlreadySet, NotThere, OrderOpen}
 use Rattle.answers.specs.declared.Answer.the-variants.{NotOwned, HasSubject, HasRole, TaskNotOwned, SelfConstraint, AlreadyDme, AlreadySme}
@@ -32,5 +32,5 @@ said SelfInheritance = say 29
 said Cycle = say 30
 said (TaskAssignment role task) = sayXY 31 role task
 said (RoleAssignment subject task) = sayXY 32 subject task
-said (HoldsSme x y) = sayXY 33 x y
-said (HoldsDme x y) = sayXY 34 x y
+said (HoldsSme x y order) = sayXYZ 33 x y order
+said (HoldsDme x y order) = sayXYZ 34 x y order

@@ -1,7 +1,7 @@
 // What comes back: a case for each number of document 01, and the audit's finding likewise.
-// specs/Answers.antt and specs/Findings.antt give the document's number, x and y of each case.
+// specs/Answers.antt and specs/Findings.antt give the document's number, x, y and z of each case.
 ghost use mathlib.Core.Path.{_≡_};
-ghost use Rattle.rules.specs.Numbers.{say, sayX, sayXY, isAccepted};
+ghost use Rattle.rules.specs.Numbers.{say, sayX, sayXY, sayXYZ, isAccepted};
 ghost use Rattle.answers.specs.Answers.{said};
 ghost use Rattle.answers.specs.Findings.{found};
 ghost use Rattle.answers.specs.Replies.{replyOf};
@@ -33,8 +33,8 @@ pub enum Answer {
     Cycle,
     TaskAssignment(u64, u64),
     RoleAssignment(u64, u64),
-    HoldsSme(u64, u64),
-    HoldsDme(u64, u64),
+    HoldsSme(u64, u64, u64),
+    HoldsDme(u64, u64, u64),
 }
 
 // What the audit finds: the lowest broken rule, where the book is well-formed.
@@ -50,28 +50,45 @@ pub struct Reply {
     pub number: u64,
     pub x: u64,
     pub y: u64,
+    pub z: u64,
 }
 
-// A number with nothing beside it, with x, and with x and y.
+// A number with nothing beside it, with x, with x and y, and with all three.
 fn say(number: u64) -> Reply
     ensures { λ reply. ⌜ reply ≡ replyOf (say number) ⌝ }
 {
-    Reply { number, x: 0, y: 0 }
+    Reply {
+        number,
+        x: 0,
+        y: 0,
+        z: 0,
+    }
 }
 
 fn say_x(number: u64, x: u64) -> Reply
     ensures { λ reply. ⌜ reply ≡ replyOf (sayX number x) ⌝ }
 {
-    Reply { number, x, y: 0 }
+    Reply {
+        number,
+        x,
+        y: 0,
+        z: 0,
+    }
 }
 
 fn say_xy(number: u64, x: u64, y: u64) -> Reply
     ensures { λ reply. ⌜ reply ≡ replyOf (sayXY number x y) ⌝ }
 {
-    Reply { number, x, y }
+    Reply { number, x, y, z: 0 }
 }
 
-// The number, x and y of an answer.
+fn say_xyz(number: u64, x: u64, y: u64, z: u64) -> Reply
+    ensures { λ reply. ⌜ reply ≡ replyOf (sayXYZ number x y z) ⌝ }
+{
+    Reply { number, x, y, z }
+}
+
+// The number, x, y and z of an answer.
 pub fn told(answer: Answer) -> Reply
     ensures { λ reply. ⌜ reply ≡ replyOf (said answer) ⌝ }
 {
@@ -101,8 +118,8 @@ pub fn told(answer: Answer) -> Reply
         Answer::Cycle => say(30),
         Answer::TaskAssignment(role, task) => say_xy(31, role, task),
         Answer::RoleAssignment(subject, task) => say_xy(32, subject, task),
-        Answer::HoldsSme(x, y) => say_xy(33, x, y),
-        Answer::HoldsDme(x, y) => say_xy(34, x, y),
+        Answer::HoldsSme(x, y, order) => say_xyz(33, x, y, order),
+        Answer::HoldsDme(x, y, order) => say_xyz(34, x, y, order),
     }
 }
 
@@ -116,7 +133,7 @@ pub fn is_accepted(answer: Answer) -> bool
     }
 }
 
-// The number, x and y of a finding.
+// The number and x of a finding, which names nothing else.
 pub fn told_finding(finding: Finding) -> Reply
     ensures { λ reply. ⌜ reply ≡ replyOf (found finding) ⌝ }
 {

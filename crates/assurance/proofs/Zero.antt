@@ -1,17 +1,18 @@
 -- No answer but 0 has the number 0. Every refusal, every conflict and every finding is given with a number of its own, and what is given
 -- is one of these or the rest; so it goes along the definitions, list by list.
 use mathlib.Core.Path.{_≡_, refl, sym, ap, _∙_}
-use mathlib.Core.Bool.{Bool, true, false, not}
+use mathlib.Core.Bool.{Bool, true, false, _&&_, not}
 use mathlib.Core.List.{List, [], _∷_}
 use Prim.Native.Nat.{ℕ, _+_, _<_}
 use native.Mathlib.Omega.{arith}
 use lib.Dec.{ltb, eqb}
 use lib.ListN.{length, getD}
-use Rattle.sets.specs.Search.{lowest, paired}
+use Rattle.sets.specs.Search.{lowest}
 use Rattle.rules.specs.Book.{Book, bookWords, read, firstBad}
 use Rattle.rules.specs.Requests.{Request, Deed, nothing, define, relate, assign, activate, openOrder, allocate, closeOrder, takeBack, unrelate}
 use Rattle.rules.specs.Requests.{rowOf}
-use Rattle.rules.specs.Numbers.{Said, accepted, says, say, numberOf, given, givenLowest, givenPair, argumentFault, allocateRefusal, stateRefusal, refusal}
+use Rattle.rules.specs.Numbers.{Said, accepted, says, say, numberOf, given, givenLowest, somePair, givenPairIn, givenLowestPair}
+use Rattle.rules.specs.Numbers.{argumentFault, allocateRefusal, stateRefusal, refusal}
 use Rattle.rules.specs.Numbers.{Conflict, selfConstraint, alreadyDme, alreadySme, oneSubjectGroup, oneRoleGroup, roleOwnsBoth, subjectOwnsBoth}
 use Rattle.rules.specs.Numbers.{smeBetweenGroups, dmeBetweenGroups, selfInheritance, cycle, taskAssignment, roleAssignment, ownRoleAssignment}
 use Rattle.rules.specs.Numbers.{heldSme, heldDme, unlisted, smeConflicts, dmeConflicts, rbConflicts, sbConflicts, taskConflicts, juniorConflicts}
@@ -36,9 +37,14 @@ lowest-numbered : (n : ℕ) (f : ℕ → Bool) (rest : Said) → 0 < n → Numbe
 unfolding givenLowest
 lowest-numbered n f rest h y = given-numbered (ltb (lowest f) 64) _ rest h y
 
-pair-numbered : (n : ℕ) (f : ℕ → ℕ → Bool) (rest : Said) → 0 < n → Numbered rest → Numbered (givenPair n f rest)
-unfolding givenPair
-pair-numbered n f rest h y = given-numbered (ltb (lowest (paired f)) 64) _ rest h y
+pair-numbered : (n : ℕ) (f : ℕ → ℕ → Bool) (z : ℕ) (rest : Said) → 0 < n → Numbered rest → Numbered (givenPairIn n f z rest)
+unfolding givenPairIn
+pair-numbered n f z rest h y = given-numbered (somePair f) _ rest h y
+
+lowest-pair-numbered : (n : ℕ) (asked : ℕ → Bool) (f : ℕ → ℕ → ℕ → Bool) (rest : Said) → 0 < n → Numbered rest
+    → Numbered (givenLowestPair n asked f rest)
+unfolding givenLowestPair
+lowest-pair-numbered n asked f rest h y = given-numbered (ltb (lowest (λ p. asked p && somePair (f p))) 64) _ rest h y
 
 -- The refusals 3 to 11.
 allocate-numbered : (d : Book) (a b c : ℕ) → Numbered (allocateRefusal d a b c)
@@ -66,7 +72,7 @@ refusal-numbered d q =
     given-numbered _ _ _ (omega arith) (given-numbered _ _ _ (omega arith)
     (given-numbered _ _ _ (omega arith) (state-numbered d (rowOf (q .kind) .deed) (q .a) (q .b) (q .c))))
 
--- A conflict gives such an answer where the rest does: with a test, a search or a pair.
+-- A conflict gives such an answer where the rest does: with a test, a search, a pair, or the lowest that has a pair.
 abbrev Gives : Conflict → Type 0
 Gives f = (d : Book) (a b : ℕ) (rest : Said) → Numbered rest → Numbered (f d a b rest)
 
@@ -76,8 +82,11 @@ by-test n f h d a b rest y = given-numbered (f d a b) (say n) rest h y
 by-lowest : (n : ℕ) (f : Book → ℕ → ℕ → ℕ → Bool) → 0 < n → Gives (λ d a b. givenLowest n (f d a b))
 by-lowest n f h d a b rest y = lowest-numbered n (f d a b) rest h y
 
-by-pair : (n : ℕ) (f : Book → ℕ → ℕ → ℕ → ℕ → Bool) → 0 < n → Gives (λ d a b. givenPair n (f d a b))
-by-pair n f h d a b rest y = pair-numbered n (f d a b) rest h y
+by-pair : (n : ℕ) (f : Book → ℕ → ℕ → ℕ → ℕ → Bool) (z : ℕ → ℕ) → 0 < n → Gives (λ d a b. givenPairIn n (f d a b) (z b))
+by-pair n f z h d a b rest y = pair-numbered n (f d a b) (z b) rest h y
+
+by-lowest-pair : (n : ℕ) (asked : Book → ℕ → Bool) (f : Book → ℕ → ℕ → ℕ → ℕ → ℕ → Bool) → 0 < n → Gives (λ d a b. givenLowestPair n (asked d) (f d a b))
+by-lowest-pair n asked f h d a b rest y = lowest-pair-numbered n (asked d) (f d a b) rest h y
 
 -- A list of conflicts, in order.
 abbrev AllGive : List Conflict → Type 0
@@ -112,28 +121,36 @@ dme-give = (by-test 20 _ (omega arith), (by-test 22 _ (omega arith), (by-test 23
 
 rb-give : AllGive rbConflicts
 unfolding rbConflicts selfConstraint alreadySme smeBetweenGroups
-rb-give = (by-test 20 _ (omega arith), (by-test 22 _ (omega arith), (by-pair 27 _ (omega arith), tt)))
+rb-give = (by-test 20 _ (omega arith), (by-test 22 _ (omega arith), (by-pair 27 _ (λ b. 0) (omega arith), tt)))
 
 sb-give : AllGive sbConflicts
 unfolding sbConflicts selfConstraint alreadyDme alreadySme smeBetweenGroups dmeBetweenGroups
-sb-give =
-    (by-test 20 _ (omega arith), (by-test 21 _ (omega arith), (by-test 22 _ (omega arith), (by-pair 27 _ (omega arith), (by-pair 28 _ (omega arith), tt)))))
+sb-give = (
+  by-test 20 _ (omega arith),
+  (
+    by-test 21 _ (omega arith),
+    (
+      by-test 22 _ (omega arith),
+      (by-pair 27 _ (λ b. 0) (omega arith), (by-pair 28 _ (λ b. 0) (omega arith), tt)),
+    ),
+  ),
+)
 
 task-give : AllGive taskConflicts
 unfolding taskConflicts taskAssignment roleAssignment
-task-give = (by-pair 31 _ (omega arith), (by-pair 32 _ (omega arith), tt))
+task-give = (by-pair 31 _ (λ b. 0) (omega arith), (by-pair 32 _ (λ b. 0) (omega arith), tt))
 
 junior-give : AllGive juniorConflicts
 unfolding juniorConflicts selfInheritance cycle taskAssignment roleAssignment
-junior-give = (by-test 29 _ (omega arith), (by-test 30 _ (omega arith), (by-pair 31 _ (omega arith), (by-pair 32 _ (omega arith), tt))))
+junior-give = (by-test 29 _ (omega arith), (by-test 30 _ (omega arith), (by-pair 31 _ (λ b. 0) (omega arith), (by-pair 32 _ (λ b. 0) (omega arith), tt))))
 
 role-give : AllGive roleConflicts
 unfolding roleConflicts ownRoleAssignment
-role-give = (by-pair 32 _ (omega arith), tt)
+role-give = (by-pair 32 _ (λ b. 0) (omega arith), tt)
 
 held-give : (c : ℕ) → AllGive (heldConflicts c)
 unfolding heldConflicts heldSme heldDme
-held-give c = (by-pair 33 _ (omega arith), (by-pair 34 _ (omega arith), tt))
+held-give c = (by-lowest-pair 33 _ _ (omega arith), (by-pair 34 _ (λ b. b) (omega arith), tt))
 
 -- A table that is listed has one of these lists, and one that is not the answer 3.
 abbrev AllListed : List (ℕ × List Conflict) → Type 0

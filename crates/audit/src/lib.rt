@@ -80,8 +80,8 @@ fn is_owner_kept(book: &[u64], rule: u8, x: u64) -> bool
 {
     match rule {
         6 => table_rules::is_acyclic(book, x),
-        7 => table_rules::is_pair_free(book, Owner::Role, x),
-        _ => table_rules::is_pair_free(book, Owner::Subject, x),
+        7 => table_rules::is_owner_free(book, Owner::Role, x),
+        _ => table_rules::is_owner_free(book, Owner::Subject, x),
     }
 }
 

@@ -8,7 +8,7 @@ use Rattle.sets.specs.Mask.{bit}
 use Rattle.chains.specs.Closure.{close}
 use Rattle.rules.specs.Book.{Book, SME, DME, RB, SB}
 use Rattle.rules.specs.Trade.{mixed, subjectGroup, roleGroup}
-use Rattle.rules.specs.Numbers.{Said, accepted, say, sayXY, givenPair, between, firstOf, rbConflicts, sbConflicts, isAccepted}
+use Rattle.rules.specs.Numbers.{Said, accepted, say, sayXY, somePair, givenPairIn, givenPair, between, firstOf, rbConflicts, sbConflicts, isAccepted}
 use Rattle.rules.specs.Numbers.{selfConstraint, alreadyDme, alreadySme, smeBetweenGroups, dmeBetweenGroups}
 use Rattle.rules.specs.Meaning.{Sized}
 use Rattle.trade.proofs.MixedLaws.{around}
@@ -16,18 +16,18 @@ use Rattle.search.specs.declared.Found.{Found}
 use Rattle.search.specs.declared.Found.the-variants.{Pair, Nothing}
 use Rattle.search.specs.Pairs.{foundPair}
 use Rattle.search.proofs.PairLaws.{given-pair, given-nothing}
-use Rattle.deeds.proofs.CascadeLaws.{pair-stands, pair-gives-way}
+use Rattle.deeds.proofs.CascadeLaws.{given-stands, given-gives-way}
 use Rattle.deeds.proofs.ConflictLaws.{told, passed}
 
 -- 27 and 28: number n, where a search over some rows between xs and ys gave v.
 module _ (rows : ℕ → ℕ) (n xs ys : ℕ) {v : Found} (found : v ≡ foundPair (between rows xs ys)) where
   -- A pair is told ..
   pub between-told : {x y : ℕ} → v ≡ Pair x y → sayXY n x y ≡ givenPair n (between rows xs ys) accepted
-  between-told p = sym (given-pair _ n accepted found p)
+  between-told p = sym (given-pair _ n 0 accepted found p)
 
   -- .. and without one nothing is.
   pub between-none : v ≡ Nothing → accepted ≡ givenPair n (between rows xs ys) accepted
-  between-none p = sym (given-nothing _ n accepted found p)
+  between-none p = sym (given-nothing _ n 0 accepted found p)
 
 module _ (d : Book) (a b : ℕ) where
   -- Where xs and ys are the groups of a and b, this is what 27 asks ..
@@ -52,14 +52,14 @@ module _ (d : Book) (a b : ℕ) where
   -- 27 was asked by itself, and s is its answer: it stands ..
   module _ {s : Said} (asked : s ≡ firstOf (smeBetweenGroups ∷ []) d a b) where
     pub sme-stands : isAccepted s ≡ false → s ≡ firstOf (smeBetweenGroups ∷ dmeBetweenGroups ∷ []) d a b
-    unfolding firstOf smeBetweenGroups
-    sme-stands e = asked ∙ pair-stands 27 _ _ (sym (λ i. isAccepted (asked i)) ∙ e)
+    unfolding firstOf smeBetweenGroups givenPairIn
+    sme-stands e = asked ∙ given-stands (somePair _) 27 _ _ (sym (λ i. isAccepted (asked i)) ∙ e)
 
     -- .. or it was silent, and 28 is asked.
     pub dme-next : isAccepted s ≡ true → {out : Said} → out ≡ firstOf (dmeBetweenGroups ∷ []) d a b
         → out ≡ firstOf (smeBetweenGroups ∷ dmeBetweenGroups ∷ []) d a b
-    unfolding firstOf smeBetweenGroups
-    dme-next e p = p ∙ pair-gives-way 27 _ _ (sym (λ i. isAccepted (asked i)) ∙ e)
+    unfolding firstOf smeBetweenGroups givenPairIn
+    dme-next e p = p ∙ given-gives-way (somePair _) 27 _ _ (sym (λ i. isAccepted (asked i)) ∙ e)
 
   -- Kind 6. 20: a is b.
   pub rb-self : a ≡ b → say 20 ≡ firstOf rbConflicts d a b

@@ -4,8 +4,8 @@ use mathlib.Core.Bool.{Bool, true, false, true≢false}
 use Prim.Native.Nat.{ℕ, _≤_, _<_}
 use lib.Dec.{ltb}
 use borrow.Author.Tests.{lt-ltb, le-ltb}
-use Rattle.sets.specs.Search.{lowest, paired}
-use Rattle.rules.specs.Numbers.{Said, accepted, sayX, sayXY, given, givenLowest, givenPair, isAccepted}
+use Rattle.sets.specs.Search.{lowest}
+use Rattle.rules.specs.Numbers.{Named, Said, accepted, says, sayX, given, givenLowest, isAccepted}
 
 module _ (t : Bool) (s rest : Said) where
   -- The test holds: its answer.
@@ -30,22 +30,22 @@ module _ (n : ℕ) (f : ℕ → Bool) (rest : Said) {x : ℕ} (found : x ≡ low
   unfolding givenLowest
   lowest-no h p = given-no (ltb (lowest f) 64) (sayX n (lowest f)) rest (ap (λ (k : ℕ). ltb k 64) (sym found) ∙ le-ltb x 64 h) p
 
--- A pair search that was asked by itself: where it gave a number, that is the answer; else the rest is.
-module _ (n : ℕ) (f : ℕ → ℕ → Bool) (rest : Said) where
-  pub pair-stands : isAccepted (givenPair n f accepted) ≡ false → givenPair n f accepted ≡ givenPair n f rest
-  unfolding givenPair given
-  pair-stands = go (ltb (lowest (paired f)) 64) (lowest (paired f))
+-- A conflict that was asked by itself: where it gave its number, that is the answer; else the rest is.
+module _ (t : Bool) (n : ℕ) (r : Named) (rest : Said) where
+  pub given-stands : isAccepted (given t (says n r) accepted) ≡ false → given t (says n r) accepted ≡ given t (says n r) rest
+  unfolding given
+  given-stands = go t
     where
-      go : (t : Bool) (x : ℕ) → isAccepted (elim t [ true ↦ sayXY n x (lowest (f x)) | false ↦ accepted ]) ≡ false
-          → _≡_ {A = Said} (elim t [ true ↦ sayXY n x (lowest (f x)) | false ↦ accepted ]) (elim t [ true ↦ sayXY n x (lowest (f x)) | false ↦ rest ])
-      go true x e = refl
-      go false x e = absurd (true≢false e)
+      go : (x : Bool) → isAccepted (elim x [ true ↦ says n r | false ↦ accepted ]) ≡ false
+          → _≡_ {A = Said} (elim x [ true ↦ says n r | false ↦ accepted ]) (elim x [ true ↦ says n r | false ↦ rest ])
+      go true e = refl
+      go false e = absurd (true≢false e)
 
-  pub pair-gives-way : isAccepted (givenPair n f accepted) ≡ true → rest ≡ givenPair n f rest
-  unfolding givenPair given
-  pair-gives-way = go (ltb (lowest (paired f)) 64) (lowest (paired f))
+  pub given-gives-way : isAccepted (given t (says n r) accepted) ≡ true → rest ≡ given t (says n r) rest
+  unfolding given
+  given-gives-way = go t
     where
-      go : (t : Bool) (x : ℕ) → isAccepted (elim t [ true ↦ sayXY n x (lowest (f x)) | false ↦ accepted ]) ≡ true
-          → _≡_ {A = Said} rest (elim t [ true ↦ sayXY n x (lowest (f x)) | false ↦ rest ])
-      go true x e = absurd (true≢false (sym e))
-      go false x e = refl
+      go : (x : Bool) → isAccepted (elim x [ true ↦ says n r | false ↦ accepted ]) ≡ true
+          → _≡_ {A = Said} rest (elim x [ true ↦ says n r | false ↦ rest ])
+      go true e = absurd (true≢false (sym e))
+      go false e = refl

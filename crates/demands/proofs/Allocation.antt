@@ -1,8 +1,8 @@
 -- Kind 13: task a is allocated in order b to subject c, and with it the tasks of its groups in the order.
 -- The hand of a relation E is the tasks of order b in a's group along E: E is SB for the subject, SB and RB mixed for the role.
 -- A value (S or E of a cell) is new in its hand and as it was elsewhere. A group lies in the hand as a whole or not at all,
--- so rule 10 stands whatever happens. Rule 9 can only break between the hand, which gets c, and a cell that c held:
--- two tasks of the hand are in one subject group, and so exclude each other nowhere. That is what 33 and 34 ask.
+-- so rule 10 stands whatever happens. Rule 9 can only break between the hand, which gets c, and a cell that c held, in whatever order:
+-- two tasks of the hand are in one subject group, and so exclude each other nowhere. That is what 33 asks of every order and 34 of order b.
 use mathlib.Core.Path.{_≡_, refl, sym, ap, _∙_, subst}
 use mathlib.Core.Logic.{inl, inr}
 use mathlib.Core.Bool.{Bool, true, false, _&&_, true≢false}
@@ -16,14 +16,15 @@ use Rattle.sets.proofs.MaskLaws.{in-both, both-out}
 use Rattle.chains.specs.Relation.{Relation, In, Step, Chain}
 use Rattle.chains.proofs.RelationLaws.{chain-join, chain-turn}
 use Rattle.rules.specs.Book.{Book, roles, subjects, SME, DME, active, orders, roleIn, subjectIn}
-use Rattle.rules.specs.Requests.{allocate, roleHand, subjectHand, stampedCell, allocated, change}
+use Rattle.rules.specs.Requests.{allocate, isOpen, roleHand, subjectHand, stampedCell, allocated, change}
 use Rattle.rules.specs.Numbers.{heldBy, heldSme, heldDme, heldConflicts, conflicts}
-use Rattle.rules.specs.Meaning.{Sized, Symmetric, Apart, Both, HandsApart, OneValue, CellWord, Sound}
+use Rattle.rules.specs.Meaning.{Sized, Symmetric, Both, CellRelation, HandsApart, OneValue, CellWord, Sound}
 use Rattle.rules.proofs.Exactly.{Exactly, exactly-and, exactly-eqb, unless-holds}
 use Rattle.rules.proofs.ChangeLaws.{unstamped}
-use Rattle.rules.proofs.TradeLaws.{Shows, subject-group, role-group, Holds, held-shows}
+use Rattle.rules.proofs.TradeLaws.{step-from, Shows, subject-group, role-group}
+use Rattle.rules.proofs.HeldLaws.{Holds, held-shows, open-order}
 use Rattle.demands.proofs.Tables.{Sme, Dme, Excluding, SubjectBound, RoleBound, subject-role, role-turns, excluding-turns, excluding-apart}
-use Rattle.demands.proofs.Conflicts.{Silent, one-silent, more-silent, Exact, exact, silent-between}
+use Rattle.demands.proofs.Conflicts.{Silent, one-silent, more-silent, Exact, exact, silent-between, silent-some-between}
 
 -- The orders o, and a task a of order b; groups run along the relation E.
 module _ (E : Relation) (o : ℕ → ℕ) (a b : ℕ) where
@@ -41,9 +42,9 @@ module _ (E : Relation) (o : ℕ → ℕ) (a b : ℕ) where
     inside : (p t : ℕ) → InHand p t → value (cell′ p t) ≡ n
     outside : (p t : ℕ) → (InHand p t → ⊥) → value (cell′ p t) ≡ value (cell p t)
 
-  -- 33 and 34: the subject with number n holds a task x of order b that excludes a task y of the hand. Here: it holds none.
-  abbrev Free : Relation → (ℕ → ℕ → ℕ) → ℕ → Type 0
-  Free X cell n = (x y : ℕ) → Step o b x × (subjectIn (cell b x) ≡ n) → Hand y → X x y → ⊥
+  -- 33 and 34: the subject with number n holds in an order p a task x whose cell excludes that of a task y of the hand. Here: it holds none.
+  abbrev Free : CellRelation → (ℕ → ℕ → ℕ) → ℕ → Type 0
+  Free X cell n = (p x y : ℕ) → Step o p x × (subjectIn (cell p x) ≡ n) → Hand y → X p b x y → ⊥
 
   -- The hand holds with a task all of its group in the order.
   whole : (p u v : ℕ) → Both o p u v → Chain E u v → InHand p u → InHand p v
@@ -62,30 +63,31 @@ module _ {E : Relation} {o : ℕ → ℕ} {a b : ℕ} (turn : Symmetric E) where
             stamped .outside p u f ∙ rule p u v both k
             ∙ sym (stamped .outside p v (λ i. f (whole E o a b p v u (both .1, both .0) (chain-turn turn k) i)))
 
-  module _ {X : Relation} {cell cell′ : ℕ → ℕ → ℕ} {n : ℕ} (stamped : Stamped E o a b cell cell′ subjectIn n) where
+  module _ {X : CellRelation} {cell cell′ : ℕ → ℕ → ℕ} {n : ℕ} (stamped : Stamped E o a b cell cell′ subjectIn n) where
     -- Rule 9 is kept where nothing that c holds excludes a task of the hand ..
-    apart-kept : Symmetric X → Apart X E → HandsApart o cell X → Free E o a b X cell n → HandsApart o cell′ X
-    apart-kept turn-X apart rule free p u v both x e h = go (stamped .either p u) (stamped .either p v)
+    apart-kept : ((p q u v : ℕ) → X p q u v → X q p v u) → ((p q u v : ℕ) → X p q u v → Chain E u v → ⊥)
+        → HandsApart o cell X → Free E o a b X cell n → HandsApart o cell′ X
+    apart-kept turn-X apart rule free p q u v iu iv x e h = go (stamped .either p u) (stamped .either q v)
       where
-        -- a cell outside the hand that has c's number had it before
-        had : (t : ℕ) → Step o p t → p ≡ b → (InHand E o a b p t → ⊥) → subjectIn (cell′ p t) ≡ n → Step o b t × (subjectIn (cell b t) ≡ n)
-        had t i q f k = subst (λ (y : ℕ). Step o y t × (subjectIn (cell y t) ≡ n)) q (i, sym (stamped .outside p t f) ∙ k)
-
-        go : Dec (InHand E o a b p u) → Dec (InHand E o a b p v) → ⊥
-        go (yes i) (yes j) = apart u v x (chain-join (chain-turn turn (i .1 .0)) (j .1 .0))
-        go (yes i) (no g) = free v u (had v (both .1) (i .0) g (sym e ∙ stamped .inside p u i)) (i .1) (turn-X u v x)
-        go (no f) (yes j) = free u v (had u (both .0) (j .0) f (e ∙ stamped .inside p v j)) (j .1) x
-        go (no f) (no g) = rule p u v both x (sym (stamped .outside p u f) ∙ e ∙ stamped .outside p v g) (subst (λ (y : ℕ). 0 < y) (stamped .outside p u f) h)
+        go : Dec (InHand E o a b p u) → Dec (InHand E o a b q v) → ⊥
+        go (yes i) (yes j) = apart p q u v x (chain-join (chain-turn turn (i .1 .0)) (j .1 .0))
+        go (yes i) (no g) =
+            free q v u (iv, sym (stamped .outside q v g) ∙ sym e ∙ stamped .inside p u i) (i .1)
+            (subst (λ (y : ℕ). X q y v u) (i .0) (turn-X p q u v x))
+        go (no f) (yes j) =
+            free p u v (iu, sym (stamped .outside p u f) ∙ e ∙ stamped .inside q v j) (j .1) (subst (λ (y : ℕ). X p y u v) (j .0) x)
+        go (no f) (no g) =
+            rule p q u v iu iv x (sym (stamped .outside p u f) ∙ e ∙ stamped .outside q v g) (subst (λ (y : ℕ). 0 < y) (stamped .outside p u f) h)
 
     -- .. and only there.
     apart-needed : 0 < n → HandsApart o cell′ X → Free E o a b X cell n
-    apart-needed pos rule x y (i, e) hand q =
-        let now-x = now (stamped .either b x) in
-        rule b x y (i, hand .1) q (now-x ∙ sym (stamped .inside b y (refl, hand))) (subst (λ (z : ℕ). 0 < z) (sym now-x) pos)
+    apart-needed pos rule p x y (i, e) hand q =
+        let now-x = now (stamped .either p x) in
+        rule p b x y i (hand .1) q (now-x ∙ sym (stamped .inside b y (refl, hand))) (subst (λ (z : ℕ). 0 < z) (sym now-x) pos)
       where
-        now : Dec (InHand E o a b b x) → subjectIn (cell′ b x) ≡ n
-        now (yes k) = stamped .inside b x k
-        now (no f) = stamped .outside b x f ∙ e
+        now : Dec (InHand E o a b p x) → subjectIn (cell′ p x) ≡ n
+        now (yes k) = stamped .inside p x k
+        now (no f) = stamped .outside p x f ∙ e
 
 -- A test that stands for P says whether P holds.
 decided : {t : Bool} {P : Type 0} → Exactly t P → Dec P
@@ -138,9 +140,9 @@ module _ (d : Book) (sized : Sized d) (sound : Sound d) (a b c : ℕ) (ha : a < 
   unfolding subjectHand
   subject-says = hand-says (subject-group d sized)
 
-  -- The tasks of order b that c holds, as they are computed.
-  held-says : (x : ℕ) → Exactly (bit (heldBy d b c) x) (Holds d b c x)
-  held-says x = held-shows d sized b .says c x hc
+  -- The tasks of order p that c holds, as they are computed.
+  held-says : (p x : ℕ) → Exactly (bit (heldBy d p c) x) (Holds d p c x)
+  held-says p x = held-shows d sized p .says c x hc
 
   -- the cells afterwards
   abbrev now : ℕ → ℕ → ℕ
@@ -201,19 +203,21 @@ module _ (d : Book) (sized : Sized d) (sound : Sound d) (a b c : ℕ) (ha : a < 
             who (yes j) q e = let same : c ≡ q = omega (arith, subject-stamped .inside p t j) in subst (λ (x : ℕ). In (subjects d) x) same dc
             who (no f) q e = was .subject q (sym (subject-stamped .outside p t f) ∙ e) .0
 
-    -- c holds no task of order b that is X to a task of the hand
-    abbrev HoldsNone : Relation → Type 0
-    HoldsNone X = Free (SubjectBound d) o a b X (d .cell) (suc c)
+    -- c holds in order p no task that is X to a task of the hand
+    abbrev HoldsNone : Relation → ℕ → Type 0
+    HoldsNone X p = (x y : ℕ) → Holds d p c x → Hand (SubjectBound d) o a b y → X x y → ⊥
 
-    -- 33, of SME ..
-    silent-held-sme : Silent (HoldsNone (Sme d)) (heldSme c d a b)
+    -- 33, of SME and every order ..
+    silent-held-sme : Silent ((p : ℕ) → HoldsNone (Sme d) p) (heldSme c d a b)
     unfolding heldSme
-    silent-held-sme = silent-between d sized 33 SME (heldBy d b c) (subjectHand d a b) held-says subject-says
+    silent-held-sme =
+        silent-some-between d sized 33 SME (isOpen d) (λ p. heldBy d p c) (subjectHand d a b) held-says
+        (λ p x h. (step-from (sized .rows orders) p x (h .0), open-order d p x (h .0))) subject-says
 
-    -- .. and 34, of DME.
-    silent-held-dme : Silent (HoldsNone (Dme d)) (heldDme c d a b)
+    -- .. and 34, of DME and order b.
+    silent-held-dme : Silent (HoldsNone (Dme d) b) (heldDme c d a b)
     unfolding heldDme
-    silent-held-dme = silent-between d sized 34 DME (heldBy d b c) (subjectHand d a b) held-says subject-says
+    silent-held-dme = silent-between d sized 34 DME (heldBy d b c) (subjectHand d a b) b (held-says b) subject-says
 
     -- Kind 13 is exact.
     pub allocate-exact : Exact d allocate a b c
@@ -237,9 +241,9 @@ module _ (d : Book) (sized : Sized d) (sound : Sound d) (a b c : ℕ) (ha : a < 
           rule8 = sound .rule8;
         })
         (λ s. let free = apart-needed (sound .bindings .sb .rule2) subject-stamped (omega arith) (s .orders .rule9) in
-        (λ x y h k e. free x y h k (inl e), λ x y h k e. free x y h k (inr e)))
+        (λ p x y h k e. free p x y h k (inl e), λ x y h k e. free b x y h k (inr (refl, e))))
       where
         -- Both together: c holds nothing that excludes a task of the hand.
-        either : HoldsNone (Sme d) → HoldsNone (Dme d) → HoldsNone (Excluding d)
-        either sme dme x y h k (inl e) = sme x y h k e
-        either sme dme x y h k (inr e) = dme x y h k e
+        either : ((p : ℕ) → HoldsNone (Sme d) p) → HoldsNone (Dme d) b → Free (SubjectBound d) o a b (Excluding d) (d .cell) (suc c)
+        either sme dme p x y h k (inl e) = sme p x y h k e
+        either sme dme p x y h k (inr (r, e)) = dme x y (subst (λ (z : ℕ). Holds d z c x) r h) k e

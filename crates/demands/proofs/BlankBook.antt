@@ -35,7 +35,7 @@ blank-sound = record {
   orders = record {
     orders-formed = λ p t e. absurd (no-step orders p t e);
     cells-formed = λ p t. subst (λ (x : ℕ). CellWord 0 0 (blank .row orders p) t x) (sym (no-cell p t)) (empty-cell 0 0 (blank .row orders p) t);
-    rule9 = λ p u v both. absurd (no-step orders p u (both .0));
+    rule9 = λ p q u v i. absurd (no-step orders p u i);
     rule10-subject = λ p u v both. absurd (no-step orders p u (both .0));
     rule10-role = λ p u v both. absurd (no-step orders p u (both .0));
   };

@@ -14,12 +14,13 @@ use Rattle.chains.proofs.ClosureLaws.{From}
 use Rattle.rules.specs.Book.{Book, SME, DME, juniors}
 use Rattle.rules.specs.Trade.{Owner, role, subject, ownsRole, ownedTasks}
 use Rattle.rules.specs.Requests.{Deed, change}
-use Rattle.rules.specs.Numbers.{Said, accepted, say, given, givenLowest, givenPair, Conflict, conflicts, firstOf, between, clashes, ownsBoth, gainedRole}
+use Rattle.rules.specs.Numbers.{Said, accepted, say, given, givenLowest, givenPairIn, givenPair, givenLowestPair, Conflict, conflicts, firstOf}
+use Rattle.rules.specs.Numbers.{between, clashes, ownsBoth, gainedRole}
 use Rattle.rules.specs.Numbers.{selfConstraint, alreadyDme, alreadySme, oneSubjectGroup, oneRoleGroup, roleOwnsBoth, subjectOwnsBoth}
 use Rattle.rules.specs.Numbers.{smeBetweenGroups, dmeBetweenGroups, selfInheritance, cycle, taskAssignment, roleAssignment, ownRoleAssignment}
 use Rattle.rules.specs.Meaning.{Sized, Sound, OwnedFrom}
 use Rattle.rules.proofs.Exactly.{Exactly, itself, exactly-and, exactly-eqb, exactly-meet, unless-holds}
-use Rattle.rules.proofs.NumberLaws.{given-out, given-in, lowest-out, lowest-in, pair-out, pair-in}
+use Rattle.rules.proofs.NumberLaws.{given-out, given-in, lowest-out, lowest-in, pair-out, pair-in, lowest-pair-out, lowest-pair-in}
 use Rattle.rules.proofs.TradeLaws.{step-from, step-to, subject-group, role-group, reach-shows, below-out, below-in, role-lt, subject-lt, owner-shows}
 use Rattle.demands.proofs.PairRules.{GroupsApart}
 use Rattle.demands.proofs.Owners.{Unclashed}
@@ -33,7 +34,7 @@ Silent P f = (rest : Said) → (f rest ≡ accepted) ↔ (P × (rest ≡ accepte
 pub silent-as : {P Q : Type 0} {f : Said → Said} → (P → Q) → (Q → P) → Silent P f → Silent Q f
 silent-as to from s rest = (λ e. let p = s rest .0 e in (to (p .0), p .1), λ p. s rest .1 (from (p .0), p .1))
 
--- Every conflict is one test, a search for the lowest or a search for a pair, with its number n.
+-- Every conflict is one test, a search for the lowest, for a pair, or for the lowest that has a pair, with its number n.
 module _ (n : ℕ) where
   -- A test that stands for P is silent where not P.
   pub silent-test : {P : Type 0} (t : Bool) → Exactly t P → Silent (P → ⊥) (given t (say n))
@@ -47,12 +48,22 @@ module _ (n : ℕ) where
       silent-as (λ g i h. unless-holds (e i h) .means (g i h)) (λ g i h. unless-holds (e i h) .fails (g i h))
       (λ rest. (lowest-out n f rest, λ p. lowest-in n f rest (p .0) (p .1)))
 
-  -- So is a search for a pair.
-  pub silent-pair : (f : ℕ → ℕ → Bool) {P : Relation} → ((u v : ℕ) → u < 64 → v < 64 → Exactly (f u v) (P u v))
-      → Silent ((u v : ℕ) → u < 64 → v < 64 → P u v → ⊥) (givenPair n f)
-  silent-pair f e =
+  -- So is a search for a pair, whatever z is ..
+  pub silent-pair : (f : ℕ → ℕ → Bool) (z : ℕ) {P : Relation} → ((u v : ℕ) → u < 64 → v < 64 → Exactly (f u v) (P u v))
+      → Silent ((u v : ℕ) → u < 64 → v < 64 → P u v → ⊥) (givenPairIn n f z)
+  silent-pair f z e =
       silent-as (λ g u v hu hv. unless-holds (e u v hu hv) .means (g u v hu hv)) (λ g u v hu hv. unless-holds (e u v hu hv) .fails (g u v hu hv))
-      (λ rest. (pair-out n f rest, λ p. pair-in n f rest (p .0) (p .1)))
+      (λ rest. (pair-out n f z rest, λ p. pair-in n f z rest (p .0) (p .1)))
+
+  -- .. and one for the lowest of those asked that has a pair.
+  pub silent-lowest-pair : (asked : ℕ → Bool) (f : ℕ → ℕ → ℕ → Bool) {P : ℕ → Relation}
+      → ((p u v : ℕ) → p < 64 → u < 64 → v < 64 → Exactly (f p u v) (P p u v))
+      → Silent ((p u v : ℕ) → p < 64 → u < 64 → v < 64 → asked p ≡ true → P p u v → ⊥) (givenLowestPair n asked f)
+  silent-lowest-pair asked f e =
+      silent-as
+      (λ g p u v hp hu hv q. unless-holds (e p u v hp hu hv) .means (g p u v hp hu hv q))
+      (λ g p u v hp hu hv q. unless-holds (e p u v hp hu hv) .fails (g p u v hp hu hv q))
+      (λ rest. (lowest-pair-out n asked f rest, λ p. lowest-pair-in n asked f rest (p .0) (p .1)))
 
 -- A list of conflicts is silent exactly where P.
 abbrev pub AllSilent : List Conflict → Book → ℕ → ℕ → Type 0 → Type 0
@@ -109,13 +120,27 @@ module _ (d : Book) (sized : Sized d) where
       let owns = owner-shows d sized start fits in
       silent-lowest n (ownsBoth d start a b) (λ o h. exactly-and (owns .says o a h) (owns .says o b h))
 
-  -- 27, 28, 33 and 34: a pair of table m leads from one set to another.
-  pub silent-between : {P Q : Subset} (n m xs ys : ℕ) → ((u : ℕ) → Exactly (bit xs u) (P u)) → ((v : ℕ) → Exactly (bit ys v) (Q v))
-      → Silent ((u v : ℕ) → P u → Q v → Step (d .row m) u v → ⊥) (givenPair n (between (d .row m) xs ys))
-  silent-between n m xs ys from to = silent-as
+  -- A pair of table m leads from one set to another, as it is computed.
+  between-says : {P Q : Subset} (m xs ys : ℕ) → ((u : ℕ) → Exactly (bit xs u) (P u)) → ((v : ℕ) → Exactly (bit ys v) (Q v))
+      → (u v : ℕ) → Exactly (between (d .row m) xs ys u v) (P u × (Step (d .row m) u v × Q v))
+  between-says m xs ys from to u v = exactly-and (from u) (exactly-and (itself (bit (d .row m u) v)) (to v))
+
+  -- 27, 28 and 34: a pair leads from one set to another.
+  pub silent-between : {P Q : Subset} (n m xs ys z : ℕ) → ((u : ℕ) → Exactly (bit xs u) (P u)) → ((v : ℕ) → Exactly (bit ys v) (Q v))
+      → Silent ((u v : ℕ) → P u → Q v → Step (d .row m) u v → ⊥) (givenPairIn n (between (d .row m) xs ys) z)
+  silent-between n m xs ys z from to = silent-as
       (λ g u v p q x. g u v (step-from (sized .rows m) u v x) (step-to (sized .rows m) u v x) (p, (x, q)))
-      (λ g u v hu hv z. g u v (z .0) (z .1 .1) (z .1 .0))
-      (silent-pair n (between (d .row m) xs ys) (λ u v hu hv. exactly-and (from u) (exactly-and (itself (bit (d .row m u) v)) (to v))))
+      (λ g u v hu hv y. g u v (y .0) (y .1 .1) (y .1 .0))
+      (silent-pair n (between (d .row m) xs ys) z (λ u v hu hv. between-says m xs ys from to u v))
+
+  -- 33: a pair leads to one set from one of several, each of which is asked where it has a member.
+  pub silent-some-between : {P : ℕ → Subset} {Q : Subset} (n m : ℕ) (asked : ℕ → Bool) (xs : ℕ → ℕ) (ys : ℕ)
+      → ((p u : ℕ) → Exactly (bit (xs p) u) (P p u)) → ((p u : ℕ) → P p u → (p < 64) × (asked p ≡ true)) → ((v : ℕ) → Exactly (bit ys v) (Q v))
+      → Silent ((p u v : ℕ) → P p u → Q v → Step (d .row m) u v → ⊥) (givenLowestPair n asked (λ p. between (d .row m) (xs p) ys))
+  silent-some-between n m asked xs ys from known to = silent-as
+      (λ g p u v h q x. let k = known p u h in g p u v (k .0) (step-from (sized .rows m) u v x) (step-to (sized .rows m) u v x) (k .1) (h, (x, q)))
+      (λ g p u v hp hu hv k y. g p u v (y .0) (y .1 .1) (y .1 .0))
+      (silent-lowest-pair n asked (λ p. between (d .row m) (xs p) ys) (λ p u v hp hu hv. between-says m (xs p) ys (from p) to u v))
 
   -- 31 and 32: an owner that is asked owns a task SME to one of the gain.
   module _ {Gain : Subset} (gain : ℕ) (small : gain < 2 ^ 64) (what : (v : ℕ) → Exactly (bit gain v) (Gain v)) where
@@ -127,7 +152,7 @@ module _ (d : Book) (sized : Sized d) where
         silent-as
         (λ g o h p u v q w x. g o u h (step-from (sized .rows SME) u v x) ((p, q), (v, x, what v .holds w)))
         (λ g o u h hu z. g o h (z .0 .0) u (z .1 .0) (z .0 .1) (what (z .1 .0) .means (z .1 .2)) (z .1 .1))
-        (silent-pair n (clashes d start asked gain) (λ o u h hu.
+        (silent-pair n (clashes d start asked gain) 0 (λ o u h hu.
         exactly-and
         (exactly-only (asked o) (ownedTasks d (start o)) u (who o h) (owns .says o u h))
         (exactly-meet (d .row SME u) gain (sized .rows SME .fits u) small)))
@@ -172,12 +197,12 @@ module _ (d : Book) (sized : Sized d) where
     -- 27: SME leads from a's role group to b's.
     pub silent-sme-groups : a < 64 → b < 64 → Silent (GroupsApart (Sme d) (RoleBound d) a b) (smeBetweenGroups d a b)
     unfolding smeBetweenGroups
-    silent-sme-groups ha hb = silent-between 27 SME _ _ (λ u. role-group d sized .says a u ha) (λ v. role-group d sized .says b v hb)
+    silent-sme-groups ha hb = silent-between 27 SME _ _ 0 (λ u. role-group d sized .says a u ha) (λ v. role-group d sized .says b v hb)
 
     -- 28: DME leads from a's subject group to b's.
     pub silent-dme-groups : a < 64 → b < 64 → Silent (GroupsApart (Dme d) (SubjectBound d) a b) (dmeBetweenGroups d a b)
     unfolding dmeBetweenGroups
-    silent-dme-groups ha hb = silent-between 28 DME _ _ (λ u. subject-group d sized .says a u ha) (λ v. subject-group d sized .says b v hb)
+    silent-dme-groups ha hb = silent-between 28 DME _ _ 0 (λ u. subject-group d sized .says a u ha) (λ v. subject-group d sized .says b v hb)
 
     -- 29, of kind 9: a is b.
     pub silent-self-inheritance : Silent (a ≡ b → ⊥) (selfInheritance d a b)

@@ -1,16 +1,17 @@
 -- The rules forbid. All that they ask for is that a pair runs both ways. So a sound book stays sound where steps are left out of its
 -- tables, as long as its pair tables still run both ways: of fewer steps there are fewer pairs, and chains lead to no more.
 -- How many steps are left out, and which of tables 0 to 6 lose them, does not matter.
-use mathlib.Core.Path.{_≡_, sym, ap, _∙_, subst}
-use mathlib.Core.Logic.{_⊎_, inl, inr}
+use mathlib.Core.Path.{_≡_, refl, sym, ap, _∙_, subst}
+use mathlib.Core.Logic.{inl, inr}
 use Prim.Native.Nat.{ℕ, _<_}
 use native.Mathlib.Omega.{arith}
 use Rattle.chains.specs.Relation.{In, Step}
 use Rattle.chains.proofs.RelationLaws.{chain-map}
 use Rattle.rules.specs.Book.{Book, tasks, roles, subjects, SME, DME, RB, SB, juniors, tasksOf, rolesOf, active, orders}
 use Rattle.rules.specs.Trade.{role}
-use Rattle.rules.specs.Meaning.{Symmetric, OwnedFrom, Pairs, Ranks, Orders, Sound}
+use Rattle.rules.specs.Meaning.{Symmetric, OwnedFrom, Pairs, Mixed, Ranks, Excludes, Orders, Sound}
 use Rattle.demands.proofs.Owners.{owned-map}
+use Rattle.demands.proofs.HeldHands.{hands-stay}
 
 -- Two books that differ in tables 0 to 6 alone: the same things are defined, active, open and in whose hands.
 pub record Beside (d d′ : Book) : Type 0 where
@@ -31,10 +32,15 @@ withTables d rows = record { head = d .head; row = rows; cell = d .cell }
 
 -- Of other tables with fewer steps, where all else is the same.
 module _ (d : Book) (rows : ℕ → ℕ → ℕ) (sound : Sound d) (fewer : (n u v : ℕ) → Step (rows n) u v → Step (d .row n) u v) where
-  -- A step of one of two tables, as what excludes and what binds for the role are.
-  either : (n m u v : ℕ) → Step (rows n) u v ⊎ Step (rows m) u v → Step (d .row n) u v ⊎ Step (d .row m) u v
-  either n m u v (inl e) = inl (fewer n u v e)
-  either n m u v (inr e) = inr (fewer m u v e)
+  -- What binds for the role did so before ..
+  binds : (u v : ℕ) → Mixed (rows SB) (rows RB) u v → Mixed (d .row SB) (d .row RB) u v
+  binds u v (inl e) = inl (fewer SB u v e)
+  binds u v (inr e) = inr (fewer RB u v e)
+
+  -- .. and so did what excludes.
+  excludes : (p q u v : ℕ) → Excludes (rows SME) (rows DME) p q u v → Excludes (d .row SME) (d .row DME) p q u v
+  excludes p q u v (inl e) = inl (fewer SME u v e)
+  excludes p q u v (inr (r, e)) = inr (r, fewer DME u v e)
 
   -- Rules 1 and 2, of a pair table.
   pairs-fewer : (n : ℕ) → Symmetric (Step (rows n)) → Pairs (tasks d) (d .row n) → Pairs (tasks d) (rows n)
@@ -59,9 +65,9 @@ module _ (d : Book) (rows : ℕ → ℕ → ℕ) (sound : Sound d) (fewer : (n u
   orders-fewer = let was = sound .orders in record {
     orders-formed = was .orders-formed;
     cells-formed = was .cells-formed;
-    rule9 = λ p u v both x. was .rule9 p u v both (either SME DME u v x);
+    rule9 = hands-stay (record { held = λ p t i h. (i, refl); excluded = λ p q u v i j. excludes p q u v }) (was .rule9);
     rule10-subject = λ p u v both c. was .rule10-subject p u v both (chain-map (fewer SB) c);
-    rule10-role = λ p u v both c. was .rule10-role p u v both (chain-map (either SB RB) c);
+    rule10-role = λ p u v both c. was .rule10-role p u v both (chain-map binds c);
   }
 
   -- Rules 7 and 8: who starts with no role more owns no task more.
@@ -78,7 +84,7 @@ module _ (d : Book) (rows : ℕ → ℕ → ℕ) (sound : Sound d) (fewer : (n u
       rb = pairs-fewer RB (turns RB (omega arith)) (was .rb);
       sb = pairs-fewer SB (turns SB (omega arith)) (was .sb);
       rule3 = λ u v x y. was .rule3 u v (fewer SME u v x) (fewer DME u v y);
-      rule4 = λ u v x c. was .rule4 u v (fewer SME u v x) (chain-map (either SB RB) c);
+      rule4 = λ u v x c. was .rule4 u v (fewer SME u v x) (chain-map binds c);
       rule5 = λ u v y c. was .rule5 u v (fewer DME u v y) (chain-map (fewer SB) c);
     };
     ranks = subst (λ (f : ℕ → ℕ). Ranks (tasks d) (roles d) (subjects d) (rows juniors) (rows tasksOf) (rows rolesOf) f) (sym actives) ranks-fewer;

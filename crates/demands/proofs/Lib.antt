@@ -7,6 +7,7 @@ pub mod PairKinds
 pub mod StaffKinds
 pub mod Allocation
 pub mod UnopposedKinds
+pub mod HeldHands
 pub mod Fewer
 pub mod TakenBack
 pub mod BlankBook

@@ -1,11 +1,12 @@
 -- The tables of a book as the relations that its rules speak of, and the two that are made of two tables:
 -- "excludes", of SME and DME, and "bound for the role", of SB and RB mixed.
+use mathlib.Core.Path.{sym}
 use mathlib.Core.Logic.{inl, inr}
 use Prim.Native.Nat.{ℕ}
 use Rattle.chains.specs.Relation.{Relation, Step, Chain}
 use Rattle.chains.proofs.RelationLaws.{chain-map, Tied, old, there, back}
 use Rattle.rules.specs.Book.{Book, SME, DME, RB, SB, juniors, tasksOf}
-use Rattle.rules.specs.Meaning.{Symmetric, Apart, Mixed, Excludes, Sound}
+use Rattle.rules.specs.Meaning.{CellRelation, Symmetric, Mixed, Excludes, Sound}
 use Rattle.demands.proofs.PairRules.{Adds}
 
 -- u and v are SME
@@ -16,8 +17,8 @@ Sme d = Step (d .row SME)
 abbrev pub Dme : Book → Relation
 Dme d = Step (d .row DME)
 
--- u excludes v
-abbrev pub Excluding : Book → Relation
+-- the cell of u in order p excludes that of v in order q
+abbrev pub Excluding : Book → CellRelation
 Excluding d = Excludes (d .row SME) (d .row DME)
 
 -- subject groups run along this
@@ -79,12 +80,12 @@ module _ (d : Book) (sound : Sound d) where
   role-turns u v (inl e) = inl (sound .bindings .sb .rule2 u v e)
   role-turns u v (inr e) = inr (sound .bindings .rb .rule2 u v e)
 
-  -- .. tasks exclude each other both ways ..
-  pub excluding-turns : Symmetric (Excluding d)
-  excluding-turns u v (inl e) = inl (sound .bindings .sme .rule2 u v e)
-  excluding-turns u v (inr e) = inr (sound .bindings .dme .rule2 u v e)
+  -- .. cells exclude each other both ways ..
+  pub excluding-turns : (p q u v : ℕ) → Excluding d p q u v → Excluding d q p v u
+  excluding-turns p q u v (inl e) = inl (sound .bindings .sme .rule2 u v e)
+  excluding-turns p q u v (inr (r, e)) = inr (sym r, sound .bindings .dme .rule2 u v e)
 
-  -- .. and no excluding tasks lie in one subject group.
-  pub excluding-apart : Apart (Excluding d) (SubjectBound d)
-  excluding-apart u v (inl e) k = sound .bindings .rule4 u v e (subject-role d k)
-  excluding-apart u v (inr e) k = sound .bindings .rule5 u v e k
+  -- .. and those of one subject group do not.
+  pub excluding-apart : (p q u v : ℕ) → Excluding d p q u v → Chain (SubjectBound d) u v → ⊥
+  excluding-apart p q u v (inl e) k = sound .bindings .rule4 u v e (subject-role d k)
+  excluding-apart p q u v (inr (r, e)) k = sound .bindings .rule5 u v e k

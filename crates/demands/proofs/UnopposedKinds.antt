@@ -15,8 +15,9 @@ use Rattle.rules.specs.Requests.{Deed, define, activate, openOrder, closeOrder,
 use Rattle.rules.specs.Numbers.{firstOf, conflicts}
 use Rattle.rules.specs.Meaning.{Between, OneValue, CellWord, Pairs, Sound}
 use Rattle.rules.proofs.ChangeLaws.{set-cases}
+use Rattle.demands.proofs.HeldHands.{hands-stay}
 use Rattle.demands.proofs.RowChanges.{set-other, add-old}
-use Rattle.demands.proofs.Tables.{Excluding, SubjectBound, RoleBound}
+use Rattle.demands.proofs.Tables.{SubjectBound, RoleBound}
 use Rattle.demands.proofs.Conflicts.{Exact}
 
 -- Where a kind has no conflicts, it is exact if the changed book is sound.
@@ -116,6 +117,13 @@ module _ (d : Book) (sound : Sound d) (a b c : ℕ) where
         → OneValue (setRow (d .row orders) p m) (setOrder d p m .cell) E value
     one-value E value = by-order (λ q o k. (u v : ℕ) → In o u × In o v → Chain E u v → value (k u) ≡ value (k v)) (λ u v both k. refl)
 
+    -- What is held now was held before: in this order nothing is, and the others are as they were.
+    still-held : (q t : ℕ) → In (setRow (d .row orders) p m q) t → 0 < subjectIn (setOrder d p m .cell q t)
+        → In (d .row orders q) t × (subjectIn (setOrder d p m .cell q t) ≡ subjectIn (d .cell q t))
+    still-held =
+        by-order (λ q o k. (t : ℕ) → In o t → 0 < subjectIn (k t) → In (d .row orders q) t × (subjectIn (k t) ≡ subjectIn (d .cell q t)))
+        (λ t i h. absurd (omega arith)) (λ q t i h. (i, refl))
+
     -- So the book stays sound.
     order-set : Sound (setOrder d p m)
     order-set = record {
@@ -127,8 +135,7 @@ module _ (d : Book) (sound : Sound d) (a b c : ℕ) where
         cells-formed =
             by-order (λ q o k. (t : ℕ) → CellWord (roles d) (subjects d) o t (k t))
             (empty-cell (roles d) (subjects d) m) (sound .orders .cells-formed);
-        rule9 = by-order (λ q o k. (u v : ℕ) → In o u × In o v → Excluding d u v → subjectIn (k u) ≡ subjectIn (k v) → 0 < subjectIn (k u) → ⊥)
-            (λ u v both x e h. omega arith) (sound .orders .rule9);
+        rule9 = hands-stay (record { held = still-held; excluded = λ q r u v i j x. x }) (sound .orders .rule9);
         rule10-subject = one-value (SubjectBound d) subjectIn (sound .orders .rule10-subject);
         rule10-role = one-value (RoleBound d) roleIn (sound .orders .rule10-role);
       };

@@ -1,4 +1,4 @@
--- The table is computed over tables; the guarantees speak of words. One step is the same in both, so a whole run is.
+-- The examples are computed over tables; the guarantees speak of words. One step is the same in both, so a whole run is.
 use mathlib.Core.Path.{_≡_, refl, sym, ap₂, _∙_, subst}
 use mathlib.Core.Bool.{Bool, true, false, _&&_, true≢false}
 use mathlib.Core.List.{List, [], _∷_}
@@ -8,7 +8,8 @@ use borrow.Author.Tests.{eqb-true, ltb-true}
 use Rattle.sets.proofs.Logic.{and-out}
 use Rattle.rules.specs.Book.{Book, bookWords, read, write}
 use Rattle.rules.specs.Requests.{Request}
-use Rattle.rules.specs.Numbers.{Named, Said, accepted, says, given, judge, kept, answer, wordsAfter}
+use Rattle.rules.specs.Numbers.{Said, accepted, says, given, judge, kept, answer, wordsAfter}
+use Rattle.rules.specs.Audit.{audited}
 use Rattle.rules.specs.Meaning.{Sized}
 use Rattle.rules.proofs.NumberLaws.{judge-out}
 use Rattle.rules.proofs.BookLaws.{read-sized, write-read}
@@ -16,7 +17,8 @@ use Rattle.rules.proofs.ChangeLaws.{blind-sized, changed-book}
 use Rattle.rules.specs.Small.{Word, bookOf, small}
 use Rattle.rules.proofs.SmallLaws.{small-fits}
 use Rattle.examples.specs.Examples.{Step, Run, same, stand, goes, allGo, examples, examples-hold}
-use Rattle.examples.specs.OnWords.{Stand, Goes, AllGo, ExamplesOnWords}
+use Rattle.examples.specs.SeveralOrders.{severalOrders, several-orders-hold, Found, allFound, findings, findings-hold}
+use Rattle.examples.specs.OnWords.{Stand, Goes, AllGo, ExamplesOnWords, SeveralOnWords, AllFound, FindingsOnWords}
 
 -- What a test that passed leaves.
 passed : (t : Bool) → T t → t ≡ true
@@ -30,11 +32,12 @@ same-out accepted (says n r) e = absurd (true≢false (sym e))
 same-out (says m q) accepted e = absurd (true≢false (sym e))
 same-out (says m q) (says n r) e =
     let p = and-out (eqb m n) _ e in
-    let x = and-out (eqb (q .x) (r .x)) (eqb (q .y) (r .y)) (p .1) in
-    ap₂ says (eqb-true m n (p .0)) (ap₂ named (eqb-true _ _ (x .0)) (eqb-true _ _ (x .1)))
+    let x = and-out (eqb (q .x) (r .x)) _ (p .1) in
+    let y = and-out (eqb (q .y) (r .y)) (eqb (q .z) (r .z)) (x .1) in
+    ap₂ says (eqb-true m n (p .0)) (named (eqb-true _ _ (x .0)) (eqb-true _ _ (y .0)) (eqb-true _ _ (y .1)))
   where
-    named : ℕ → ℕ → Named
-    named x y = record { x = x; y = y }
+    named : q .x ≡ r .x → q .y ≡ r .y → q .z ≡ r .z → q ≡ r
+    named e f g = λ i. record { x = e i; y = f i; z = g i }
 
 -- .. and words that it finds standing in a book stand in any words that write that book.
 stand-out : (d : Book) (w : ℕ → ℕ) (ws : List Word) → ((i : ℕ) → i < bookWords → write d i ≡ w i) → stand d ws ≡ true → Stand w ws
@@ -88,3 +91,18 @@ all-on-words (r ∷ rs) e =
 -- P1 to P14 hold of the words.
 pub examples-on-words : ExamplesOnWords
 examples-on-words = all-on-words examples (passed (allGo examples) examples-hold)
+
+-- So do the runs of M-104 ..
+pub several-on-words : SeveralOnWords
+several-on-words = all-on-words severalOrders (passed (allGo severalOrders) several-orders-hold)
+
+-- .. and its audits.
+all-found : (fs : List Found) → allFound fs ≡ true → AllFound fs
+all-found [] e = tt
+all-found (f ∷ fs) e =
+    let told = audited bookWords (bookOf (f .book)) in
+    let p = went-on (small (f .book) && same told (f .answer)) (allFound fs) e in
+    (same-out told (f .answer) (and-out (small (f .book)) _ (p .0) .1), all-found fs (p .1))
+
+pub findings-on-words : FindingsOnWords
+findings-on-words = all-found findings (passed (allFound findings) findings-hold)

@@ -1,5 +1,5 @@
 -- Document 01, "Numbers to check by": P1 to P14 as one computed table. Each "then" is the next step of a run. With M-101 a role is active
--- where it was activated: in book B by its active words, in P14 by a request.
+-- where it was activated: in book B by its active words, in P14 by a request. With M-104 an answer has a third number.
 -- The runs are computed over tables; OnWords.antt says the same of the words that the guarantees speak of.
 use mathlib.Core.Bool.{Bool, true, false, _&&_}
 use mathlib.Core.List.{List, [], _∷_}
@@ -7,7 +7,7 @@ use Prim.Native.Nat.{ℕ}
 use lib.Dec.{T, ltb, eqb}
 use Rattle.rules.specs.Book.{Book, bookWords, read, write}
 use Rattle.rules.specs.Requests.{Request}
-use Rattle.rules.specs.Numbers.{Said, accepted, says, say, sayX, sayXY, judge, kept}
+use Rattle.rules.specs.Numbers.{Said, accepted, says, say, sayX, sayXY, sayXYZ, judge, kept}
 use Rattle.rules.specs.Small.{Word, cell, bookOf, small}
 use Rattle.rules.specs.Computed.{computed}
 
@@ -51,7 +51,7 @@ abbrev pub same : Said → Said → Bool
 same accepted accepted = true
 same accepted (says n r) = false
 same (says m q) accepted = false
-same (says m q) (says n r) = eqb m n && (eqb (q .x) (r .x) && eqb (q .y) (r .y))
+same (says m q) (says n r) = eqb m n && (eqb (q .x) (r .x) && (eqb (q .y) (r .y) && eqb (q .z) (r .z)))
 
 -- the words listed are words of the book, and stand there
 abbrev pub stand : Book → List Word → Bool
@@ -89,7 +89,7 @@ examples =
     ∷ ask 12 0 0 60 accepted []
     ∷ ask 13 2 0 1 accepted (cell 0 2 514 ∷ cell 0 3 514 ∷ cell 0 4 0 ∷ cell 0 5 512 ∷ [])
     -- P11 then task 4 to subject 1; to subject 2
-    ∷ ask 13 4 0 1 (sayXY 34 2 4) []
+    ∷ ask 13 4 0 1 (sayXYZ 34 2 4 0) []
     ∷ ask 13 4 0 2 accepted (cell 0 4 515 ∷ [])
     -- P12 then task 3 to subject 2; task 5 to subject 2; SME 0-2
     ∷ ask 13 3 0 2 (sayX 9 1) []
@@ -126,7 +126,7 @@ examples =
     ∷ ask 10 1 0 0 accepted ((388, 2) ∷ (452, 1) ∷ [])
     ∷ ask 13 1 0 0 (say 8) []
     ∷ ask 11 1 0 0 accepted ((452, 2) ∷ [])
-    ∷ ask 13 1 0 0 (sayXY 33 0 1) []
+    ∷ ask 13 1 0 0 (sayXYZ 33 0 1 0) []
     ∷ [])
     ∷ []
 

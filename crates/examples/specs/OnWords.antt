@@ -1,12 +1,14 @@
--- P1 to P14 of the words that the guarantees speak of: each run of the table, from its first request to its last, on a book of words.
--- proofs/OnWords.antt shows it from the computed table.
+-- P1 to P14, and the examples of M-104, of the words that the guarantees speak of: each run of a table, from its first request to its
+-- last, on a book of words. proofs/OnWords.antt shows it from the computed tables.
 use mathlib.Core.Path.{_≡_}
 use mathlib.Core.List.{List, [], _∷_}
 use Prim.Native.Nat.{ℕ}
 use Rattle.rules.specs.Book.{bookWords}
 use Rattle.rules.specs.Numbers.{answer, wordsAfter}
 use Rattle.rules.specs.Small.{Word, bookOf}
+use Rattle.rules.specs.Audit.{audited}
 use Rattle.examples.specs.Examples.{Step, Run, examples}
+use Rattle.examples.specs.SeveralOrders.{severalOrders, Found, findings}
 
 -- the words listed stand in the book w
 abbrev pub Stand : (ℕ → ℕ) → List Word → Type 0
@@ -28,3 +30,15 @@ AllGo (r ∷ rs) = Goes (bookOf (r .start)) (r .steps) × AllGo rs
 -- P1 to P14 hold of the words.
 abbrev pub ExamplesOnWords : Type 0
 ExamplesOnWords = AllGo examples
+
+-- So do the runs of M-104 ..
+abbrev pub SeveralOnWords : Type 0
+SeveralOnWords = AllGo severalOrders
+
+-- .. and its audits.
+abbrev pub AllFound : List Found → Type 0
+AllFound [] = Unit {0}
+AllFound (f ∷ fs) = (audited bookWords (bookOf (f .book)) ≡ f .answer) × AllFound fs
+
+abbrev pub FindingsOnWords : Type 0
+FindingsOnWords = AllFound findings

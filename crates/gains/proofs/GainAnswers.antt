@@ -30,12 +30,12 @@ module _ (d : Book) (a b : ℕ) where
     -- A pair is told ..
     pub clash-told : {x y : ℕ} → v ≡ Pair x y → sayXY number x y ≡ firstOf (f ∷ fs) d a b
     unfolding firstOf
-    clash-told p = sym (asks _ ∙ given-pair _ number _ searched p)
+    clash-told p = sym (asks _ ∙ given-pair _ number 0 _ searched p)
 
     -- .. and without one the rest is asked.
     pub clash-passed : v ≡ Nothing → {out : Said} → out ≡ firstOf fs d a b → out ≡ firstOf (f ∷ fs) d a b
     unfolding firstOf
-    clash-passed p q = q ∙ sym (asks _ ∙ given-nothing _ number _ searched p)
+    clash-passed p q = q ∙ sym (asks _ ∙ given-nothing _ number 0 _ searched p)
 
   -- Kind 9. 29: a is b.
   pub junior-self : a ≡ b → say 29 ≡ firstOf juniorConflicts d a b
@@ -63,8 +63,8 @@ module _ (d : Book) (a b : ℕ) where
 
     pub own-told : b < 64 → y < 64 → sayXY 32 b y ≡ firstOf roleConflicts d a b
     unfolding firstOf roleConflicts ownRoleAssignment
-    own-told hb hy = sym (given-pair _ 32 accepted (own-clash d (subject d) b _ _ own hb hy) refl)
+    own-told hb hy = sym (given-pair _ 32 0 accepted (own-clash d (subject d) b _ _ own hb hy) refl)
 
     pub own-none : 64 ≤ y → accepted ≡ firstOf roleConflicts d a b
     unfolding firstOf roleConflicts ownRoleAssignment
-    own-none h = sym (given-nothing _ 32 accepted (no-own-clash d (subject d) b _ _ own h) refl)
+    own-none h = sym (given-nothing _ 32 0 accepted (no-own-clash d (subject d) b _ _ own h) refl)

@@ -82,7 +82,8 @@ pub fn own_conflict(book: &[u64], a: u64, b: u64) -> Answer
     ensures { λ r. ⌜ said r ≡ firstOf roleConflicts (tables (now (book .entry))) a b ⌝ }
 {
     let owned = trade::owned_tasks(book, book::row(book, book::ROLES_OF, b));
-    let y = owners::clash_of(book, owned, gain_of(book, Gain::Role, a));
+    let gain = gain_of(book, Gain::Role, a);
+    let y = search::lowest_meeting(book, book::SME, owned, gain);
     if y < 64 {
         return Answer::RoleAssignment(b, y);
     }

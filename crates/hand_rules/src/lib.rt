@@ -1,16 +1,16 @@
-// The audit's rules 9 and 10, over the cells of the open orders. For rule 9 who holds what is found first, order by order; for
-// rule 10 the groups are, task by task, and each is looked at once, from its lowest task in an order.
+// The audit's rules 9 and 10, over the cells of the open orders. For rule 9 who holds what is found first, a set of tasks for each subject:
+// over all orders for SME, order by order for DME. For rule 10 the groups are, task by task, and each is looked at once, from its lowest
+// task in an order.
 ghost use mathlib.Core.Path.{_≡_};
 ghost use mathlib.Core.Bool.{false, not};
 ghost use Prim.Native.Nat.{ℕ, _≤_, _<_};
-ghost use lib.ListN.{length, getD};
+ghost use lib.ListN.{length};
 ghost use Rattle.sets.specs.Search.{all};
-ghost use Rattle.rules.specs.Book.{SME, DME};
-ghost use Rattle.rules.specs.Trade.{mixed};
-ghost use Rattle.rules.specs.Numbers.{heldBy};
+ghost use Rattle.rules.specs.Book.{tableCount};
 ghost use Rattle.rules.specs.Audit.{pairFree, broken};
 ghost use Rattle.book.specs.Slice.{words, tables, Full, WellFormed};
-ghost use Rattle.hand_rules.specs.Hands.{Opens, noted, fromLowest, alike, sameHand, togetherIn, boundTogether};
+ghost use Rattle.hand_rules.specs.Hands.{Opens, noted, NotedIn, OnlyDefined, smeApart, dmeApartIn, dmeApart};
+ghost use Rattle.hand_rules.specs.Hands.{fromLowest, alike, sameHand, togetherIn, boundTogether};
 
 // The open orders, those that have a task, as a set.
 fn open_orders(book: &[u64]) -> u64
@@ -32,30 +32,27 @@ fn note(held: &mut [u64; 64], s: u64, t: u64)
     held[i] = sets::add(held[i], t);
 }
 
-// The tasks of the order that each subject holds, side by side.
-fn held_in(book: &[u64], order: u64) -> [u64; 64]
-    requires { ⌜ WellFormed (now book) × (order < 64) ⌝ }
-    ensures { λ v. ⌜ ((s : ℕ) → s < 64 → getD v s 0 ≡ heldBy (tables (now (book .entry))) order s) ⌝ }
+// Notes for each subject what it holds in the order, beside what it was noted with before.
+fn note_order(book: &[u64], order: u64, held: &mut [u64; 64])
+    requires { ⌜ WellFormed (now book) × (order < 64) × (length (now held) ≡ 64) ⌝ }
+    ensures { λ _. ⌜ NotedIn (tables (now (book .entry))) order (now (held .entry)) (now (held .exit)) ⌝ }
 {
-    let mut held = [0u64; 64];
     let mut left = book::row(book, book::ORDERS, order);
     while left != 0 {
         let t = sets::lowest(left);
-        note(&mut held, book::subject_in(book::cell(book, order, t)), t);
+        note(held, book::subject_in(book::cell(book, order, t)), t);
         left = sets::rest(left);
     }
-    held
 }
 
-// Whether no task of the set excludes one of the set.
-fn is_pair_free(book: &[u64], set: u64) -> bool
-    requires { ⌜ Full (now book) ⌝ }
-    ensures { λ r. ⌜ r ≡ pairFree (mixed (tables (now (book .entry))) SME DME) set ⌝ }
+// Whether what each subject is noted with holds no pair of the table. Who is undefined is noted with nothing.
+fn are_free(book: &[u64], table: u64, held: &[u64; 64]) -> bool
+    requires { ⌜ Full (now book) × (table < tableCount) × (length (now held) ≡ 64) × OnlyDefined (tables (now book)) (now held) ⌝ }
+    ensures { λ r. ⌜ r ≡ all 64 (λ s. pairFree ((tables (now (book .entry))) .row table) (words (now (held .entry)) s)) ⌝ }
 {
-    let mut left = set;
+    let mut left = book::head(book, book::SUBJECTS);
     while left != 0 {
-        let rivals = trade::mixed_row(book, book::SME, book::DME, sets::lowest(left));
-        if sets::meets(rivals, set) {
+        if !search::is_pair_free(book, table, held[sets::lowest(left) as usize]) {
             return false;
         }
         left = sets::rest(left);
@@ -63,37 +60,50 @@ fn is_pair_free(book: &[u64], set: u64) -> bool
     true
 }
 
-// Rule 9 in one order: no subject holds a task of it that excludes one that it holds too. Who is undefined holds nothing, and without tasks
-// nobody does.
-fn is_apart_in(book: &[u64], order: u64) -> bool
+// Rule 9 for DME in one order: nobody holds both tasks of a pair in it. An order that is not open asks nothing.
+fn is_dme_apart_in(book: &[u64], order: u64) -> bool
     requires { ⌜ WellFormed (now book) × (order < 64) ⌝ }
-    ensures { λ r. ⌜ r ≡ all 64 (λ s. pairFree (mixed (tables (now (book .entry))) SME DME) (heldBy (tables (now (book .entry))) order s)) ⌝ }
+    ensures { λ r. ⌜ r ≡ dmeApartIn (tables (now (book .entry))) order ⌝ }
 {
     if book::row(book, book::ORDERS, order) == 0 {
         return true;
     }
-    let held = held_in(book, order);
-    let mut left = book::head(book, book::SUBJECTS);
-    while left != 0 {
-        if !is_pair_free(book, held[sets::lowest(left) as usize]) {
+    let mut held = [0u64; 64];
+    note_order(book, order, &mut held);
+    are_free(book, book::DME, &held)
+}
+
+// Rule 9 for DME, in every order by itself.
+fn is_dme_apart(book: &[u64]) -> bool
+    requires { ⌜ WellFormed (now book) ⌝ }
+    ensures { λ r. ⌜ r ≡ dmeApart (tables (now (book .entry))) ⌝ }
+{
+    for order in 0..64 {
+        if !is_dme_apart_in(book, order) {
             return false;
         }
-        left = sets::rest(left);
     }
     true
 }
 
-// Rule 9, in every order.
+// Rule 9 for SME: nobody holds both tasks of a pair, in whatever orders.
+fn is_sme_apart(book: &[u64]) -> bool
+    requires { ⌜ WellFormed (now book) ⌝ }
+    ensures { λ r. ⌜ r ≡ smeApart (tables (now (book .entry))) ⌝ }
+{
+    let mut held = [0u64; 64];
+    for order in 0..64 {
+        note_order(book, order, &mut held);
+    }
+    are_free(book, book::SME, &held)
+}
+
+// Rule 9.
 pub fn are_apart(book: &[u64]) -> bool
     requires { ⌜ WellFormed (now book) ⌝ }
     ensures { λ r. ⌜ r ≡ not (broken (tables (now (book .entry))) 9) ⌝ }
 {
-    for order in 0..64 {
-        if !is_apart_in(book, order) {
-            return false;
-        }
-    }
-    true
+    is_sme_apart(book) & is_dme_apart(book)
 }
 
 // The set, where u is its lowest member; else nothing.

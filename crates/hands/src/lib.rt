@@ -3,9 +3,9 @@
 ghost use mathlib.Core.Path.{_≡_};
 ghost use Prim.Native.Nat.{_<_};
 ghost use Rattle.rules.specs.Requests.{roleHand, subjectHand};
-ghost use Rattle.rules.specs.Numbers.{activeOwned, heldBy};
+ghost use Rattle.rules.specs.Numbers.{activeOwned};
 ghost use Rattle.book.specs.Slice.{tables, Full};
-ghost use Rattle.hands.specs.Held.{heldRow};
+ghost use Rattle.hands.specs.Held.{heldRow, heldAmong};
 
 // The tasks of the order in the role group of a task.
 pub fn role_hand(book: &[u64], task: u64, order: u64) -> u64
@@ -35,13 +35,13 @@ fn held_row(book: &[u64], order: u64, subject: u64, t: u64) -> u64
     }
 }
 
-// The tasks of the order that the subject holds.
-pub fn held_by(book: &[u64], order: u64, subject: u64) -> u64
+// The tasks of the order that the subject holds, among those that are asked for: no other cell is looked at.
+pub fn held_among(book: &[u64], order: u64, subject: u64, those: u64) -> u64
     requires { ⌜ Full (now book) × (order < 64) × (subject < 64) ⌝ }
-    ensures { λ v. ⌜ v ≡ heldBy (tables (now (book .entry))) order subject ⌝ }
+    ensures { λ v. ⌜ v ≡ heldAmong (tables (now (book .entry))) order subject those ⌝ }
 {
     let mut held = 0;
-    let mut left = book::row(book, book::ORDERS, order);
+    let mut left = book::row(book, book::ORDERS, order) & those;
     while left != 0 {
         held = held | held_row(book, order, subject, sets::lowest(left));
         left = sets::rest(left);

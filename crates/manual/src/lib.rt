@@ -95,10 +95,10 @@ fn more(paper: &mut [u8], row: u64) {
           |A task must be defined before anything else is said of it. Once defined it stays.\nExample: define-task 0\n\
           |A role must be defined before anything else is said of it. Once defined it stays.\nExample: define-role 0\n\
           |A person must be defined before anything else is said of them. Once defined they stay.\nExample: define-subject 0\n\
-          |Nobody may own both tasks, by whatever roles (static mutual exclusion). No order may be open; take-sme takes it back.\n\
-          Example: sme 0 1\n\
-          |Who does the one task in an order may not do the other in it (dynamic mutual exclusion). No order may be open; take-dme takes it \
-          back.\nExample: dme 2 4\n\
+          |Nobody may own both tasks, by whatever roles, or hold both in open orders, be it in one order or in two (static mutual exclusion). No \
+          order may be open; take-sme takes it back.\nExample: sme 0 1\n\
+          |Who does the one task in an order may not do the other in it, but may in another order (dynamic mutual exclusion). No order may be \
+          open; take-dme takes it back.\nExample: dme 2 4\n\
           |Within an order both tasks are done in the same role (role binding). No order may be open; take-rb takes it back.\n\
           Example: rb 6 7\n\
           |Within an order both tasks are done by the same person in the same role (subject binding). No order may be open; take-sb takes it \
@@ -112,7 +112,8 @@ fn more(paper: &mut [u8], row: u64) {
           |The order gets the tasks named, one or more, each defined. A mask is the sum of 1 for task 0, 2 for task 1, 4 for task 2 and so \
           on.\nExample: open 0 tasks 0 1 2, or open 0 7\n\
           |The person does the task in the open order, and with it the tasks that are bound to it by SB; those bound by RB are held for the \
-          role that the person acts in. The person must act in a role that they own now (activate), and that role must own all these tasks.\n\
+          role that the person acts in. The person must act in a role that they own now (activate), and that role must own all these tasks. \
+          Nothing that the person holds may exclude what they get: in any open order for SME, in this one for DME.\n\
           Example: allocate 0 0 1 (task 0, order 0, person 1)\n\
           |The order's tasks and who did them are forgotten; its number can be used again.\nExample: close 0\n\
           |The task is taken from the role that it was assigned to. What is in hand in open orders stays there.\nExample: take-task 0 0\n\

@@ -7,10 +7,11 @@ ghost use Prim.Native.Nat.{_-_, _≤_, _<_};
 ghost use Rattle.sets.specs.Search.{lowest};
 ghost use Rattle.rules.specs.Trade.{role, ownedTasks};
 ghost use Rattle.rules.specs.Requests.{openOrder, allocate, closeOrder, roleHand};
-ghost use Rattle.rules.specs.Numbers.{outside, cellRefusal, allocateRefusal, heldConflicts, firstOf};
-ghost use Rattle.book.specs.Slice.{tables, Full};
+ghost use Rattle.rules.specs.Numbers.{accepted, outside, cellRefusal, allocateRefusal, heldConflicts, firstOf};
+ghost use Rattle.book.specs.Slice.{tables, Full, WellFormed};
 ghost use Rattle.answers.specs.Answers.{said};
 ghost use Rattle.deeds.specs.Outcome.{decide, Settled};
+ghost use Rattle.orders.specs.Held.{heldSmeIn, heldDmeIn};
 
 // Kind 12: open order a with the task mask c. 5 where it is open already.
 pub fn open_order(book: &mut [u64], a: u64, c: u64) -> Answer
@@ -78,25 +79,52 @@ fn allocate_refusal(book: &[u64], a: u64, b: u64, c: u64) -> Answer
     cell_refusal(book, a, b, book::row(book, book::ACTIVE, c))
 }
 
-// Kind 13: 33 and 34, between what c holds in order b and a's subject group there.
-fn allocate_conflict(book: &[u64], a: u64, b: u64, c: u64) -> Answer
-    requires { ⌜ Full (now book) × (a < 64) × (b < 64) × (c < 64) ⌝ }
-    ensures { λ r. ⌜ said r ≡ firstOf (heldConflicts c) (tables (now (book .entry))) a b ⌝ }
+// Kind 13: 33, between what c holds in each order and the tasks that c would get. The tasks that are SME to one of these are found once.
+fn sme_held(book: &[u64], c: u64, hand: u64) -> Answer
+    requires { ⌜ WellFormed (now book) × (c < 64) ⌝ }
+    ensures { λ r. ⌜ said r ≡ heldSmeIn (tables (now (book .entry))) c hand accepted ⌝ }
 {
-    let held = hands::held_by(book, b, c);
-    let hand = hands::subject_hand(book, a, b);
-    if let Found::Pair(x, y) = search::first_pair(book, book::SME, held, hand) {
-        return Answer::HoldsSme(x, y);
+    let excluded = search::meeting(book, book::SME, book::head(book, book::TASKS), hand);
+    if excluded == 0 {
+        return Answer::Accepted;
     }
-    if let Found::Pair(x, y) = search::first_pair(book, book::DME, held, hand) {
-        return Answer::HoldsDme(x, y);
+    for order in 0..64 {
+        let held = hands::held_among(book, order, c, excluded);
+        if let Found::Pair(x, y) = search::first_pair(book, book::SME, held, hand) {
+            return Answer::HoldsSme(x, y, order);
+        }
     }
     Answer::Accepted
 }
 
+// Kind 13: 34, between what c holds in order b and the tasks that c would get there.
+fn dme_held(book: &[u64], b: u64, c: u64, hand: u64) -> Answer
+    requires { ⌜ Full (now book) × (b < 64) × (c < 64) ⌝ }
+    ensures { λ r. ⌜ said r ≡ heldDmeIn (tables (now (book .entry))) b c hand accepted ⌝ }
+{
+    let held = hands::held_among(book, b, c, !0);
+    if let Found::Pair(x, y) = search::first_pair(book, book::DME, held, hand) {
+        return Answer::HoldsDme(x, y, b);
+    }
+    Answer::Accepted
+}
+
+// Kind 13: 33 of all open orders, then 34 of order b; what c would get is a's subject group there.
+fn allocate_conflict(book: &[u64], a: u64, b: u64, c: u64) -> Answer
+    requires { ⌜ WellFormed (now book) × (a < 64) × (b < 64) × (c < 64) ⌝ }
+    ensures { λ r. ⌜ said r ≡ firstOf (heldConflicts c) (tables (now (book .entry))) a b ⌝ }
+{
+    let hand = hands::subject_hand(book, a, b);
+    let sme = sme_held(book, c, hand);
+    if !answers::is_accepted(sme) {
+        return sme;
+    }
+    dme_held(book, b, c, hand)
+}
+
 // Kind 13: the answer, on the book as it stands.
 fn judge_allocation(book: &[u64], a: u64, b: u64, c: u64) -> Answer
-    requires { ⌜ Full (now book) × (a < 64) × (b < 64) × (c < 64) ⌝ }
+    requires { ⌜ WellFormed (now book) × (a < 64) × (b < 64) × (c < 64) ⌝ }
     ensures { λ r. ⌜ said r ≡ decide (tables (now (book .entry))) allocate a b c ⌝ }
 {
     let refusal = allocate_refusal(book, a, b, c);
@@ -108,7 +136,7 @@ fn judge_allocation(book: &[u64], a: u64, b: u64, c: u64) -> Answer
 
 // Kind 13: allocate task a in order b to subject c.
 pub fn allocate(book: &mut [u64], a: u64, b: u64, c: u64) -> Answer
-    requires { ⌜ Full (now book) × (a < 64) × (b < 64) × (c < 64) ⌝ }
+    requires { ⌜ WellFormed (now book) × (a < 64) × (b < 64) × (c < 64) ⌝ }
     ensures { λ r. ⌜ Settled (now (book .entry)) (now (book .exit)) allocate a b c r ⌝ }
 {
     let answer = judge_allocation(book, a, b, c);

@@ -2,8 +2,6 @@
 ghost use mathlib.Core.Path.{_≡_};
 ghost use Prim.Native.Nat.{_<_};
 ghost use Rattle.sets.specs.Search.{lowest};
-ghost use Rattle.rules.specs.Book.{SME};
-ghost use Rattle.rules.specs.Numbers.{clash};
 ghost use Rattle.book.specs.Slice.{tables, Full, WellFormed};
 ghost use Rattle.search.specs.Pairs.{foundPair};
 ghost use Rattle.owners.specs.Owners.{startOf, clashesBelow};
@@ -85,22 +83,6 @@ pub fn lowest_starter(book: &[u64], owner: Owner, xs: u64, ys: u64) -> u64
     ensures { λ v. ⌜ v ≡ lowest (startsInBoth (tables (now (book .entry))) owner xs ys) ⌝ }
 {
     sets::lowest(starters(book, owner, xs) & starters(book, owner, ys))
-}
-
-// The lowest owned task that is SME to one that would be gained; 64 where there is none.
-pub fn clash_of(book: &[u64], owned: u64, gain: u64) -> u64
-    requires { ⌜ Full (now book) ⌝ }
-    ensures { λ v. ⌜ v ≡ lowest (clash ((tables (now (book .entry))) .row SME) gain owned) ⌝ }
-{
-    let mut left = owned;
-    while left != 0 {
-        let t = sets::lowest(left);
-        if sets::meets(book::row(book, book::SME, t), gain) {
-            return t;
-        }
-        left = sets::rest(left);
-    }
-    64
 }
 
 // Among the owners of role b: the lowest that owns a task SME to one it would gain, and the lowest such task.

@@ -1,7 +1,8 @@
 // The panel: it starts from the blank book, reads requests from standard input, one a line, and tells what the book answers to each, and
 // at the end what the audit finds. The grammar of a line is that of crate typed.
 //
-//     LINE: NUMBER X Y  SENTENCE     the answer to the request on that line, or the audit's
+//     LINE: NUMBER X Y Z  SENTENCE   the answer to the request on that line
+//     LINE: NUMBER X Y  SENTENCE     what the audit on that line found
 //     LINE: no request: ..           what is wrong with a line that is none; the shift goes on
 //     LINE: the book                 after `show`, with the tables behind it
 //     end: NUMBER X Y  SENTENCE      the audit at the end of the shift
@@ -236,7 +237,7 @@ fn welcome(paper: &mut [u8], terminal: bool) {
     if terminal {
         output::bytes(
             paper,
-            b"Towerplank 2.0.2: type requests; help lists them, quit or Ctrl-D ends the shift\n",
+            b"Towerplank 3.0.0: type requests; help lists them, quit or Ctrl-D ends the shift\n",
         );
     }
 }

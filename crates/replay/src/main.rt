@@ -1,7 +1,7 @@
 // The run agreement: plays a stream of cases on the proved book and prints what the independent program in witness/
 // prints for them. The lines of a stream are described in crate stream; the answers are
 //
-//     r NUMBER X Y I V ..   to a request: its answer, then each word that it changed and what it became, index rising
+//     r NUMBER X Y Z I V .. to a request: its answer, then each word that it changed and what it became, index rising
 //     a NUMBER X Y          to an audit
 //     ? LINE                to a line that is no command to this book
 //
@@ -34,12 +34,12 @@ fn carry_out(
             doing::store(before, i, v);
         }
         Outcome::Answered(reply) => {
-            telling::tell(paper, b'r', reply);
+            telling::answer(paper, reply);
             telling::changes(book, before, paper);
             output::byte(paper, b'\n');
         }
         Outcome::Audited(reply) => {
-            telling::tell(paper, b'a', reply);
+            telling::finding(paper, reply);
             output::byte(paper, b'\n');
         }
         Outcome::Nothing => telling::complain(paper, line),

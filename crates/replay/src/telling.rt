@@ -7,12 +7,23 @@ fn spaced(paper: &mut [u8], n: u64) {
     output::number(paper, n);
 }
 
-// Tells an answer: its name, number, x and y.
-pub fn tell(paper: &mut [u8], name: u8, reply: Reply) {
+// Tells what came back: its name, number, x and y.
+fn tell(paper: &mut [u8], name: u8, reply: Reply) {
     output::byte(paper, name);
     spaced(paper, reply.number);
     spaced(paper, reply.x);
     spaced(paper, reply.y);
+}
+
+// Tells the answer to a request, which has z as well ..
+pub fn answer(paper: &mut [u8], reply: Reply) {
+    tell(paper, b'r', reply);
+    spaced(paper, reply.z);
+}
+
+// .. and what the audit found, which has none.
+pub fn finding(paper: &mut [u8], reply: Reply) {
+    tell(paper, b'a', reply);
 }
 
 // Tells of word i, if it is no longer what it was, and takes it over.

@@ -1,27 +1,28 @@
 -- Each rule's test holds exactly where its sentence over relations does, and the audit answers 0 exactly of the sound books.
 -- Rules that say the same of several tables, of roles and subjects, of groups and rows, are one law.
-use mathlib.Core.Path.{_≡_, refl, _∙_}
-use mathlib.Core.Logic.{_⊎_, inl, inr}
+use mathlib.Core.Path.{_≡_, refl, sym, _∙_, subst}
+use mathlib.Core.Logic.{inl, inr}
 use mathlib.Core.Bool.{Bool, true, false, not}
-use Prim.Native.Nat.{ℕ, _+_, _^_, _≤_, _<_}
+use Prim.Native.Nat.{ℕ, suc, _+_, _-_, _^_, _≤_, _<_}
 use native.Mathlib.Omega.{arith}
-use native.Mathlib.Decide.{decLt}
 use lib.Dec.{ltb}
 use Rattle.sets.specs.Mask.{bit}
 use Rattle.sets.specs.Search.{all}
 use Rattle.chains.specs.Relation.{Relation, Subset, Step, Chain, Reaches}
 use Rattle.rules.specs.Book.{Book, bookWords, tasks, SME, DME, RB, SB, juniors, orders, roleIn, subjectIn, firstBad}
 use Rattle.rules.specs.Trade.{Owner, role, subject, ownedTasks, reach, subjectGroup, roleGroup}
-use Rattle.rules.specs.Numbers.{accepted}
-use Rattle.rules.specs.Audit.{ofFour, notOwn, symmetric, apart, pairFree, ownerFree, inOrders, handsApart, handsTogether}
+use Rattle.rules.specs.Requests.{isOpen}
+use Rattle.rules.specs.Numbers.{accepted, heldBy}
+use Rattle.rules.specs.Audit.{ofFour, notOwn, symmetric, apart, pairFree, ownerFree, heldAnywhere, handsApart, inOrders, handsTogether}
 use Rattle.rules.specs.Audit.{rules, keptAt, broken, ruleCount, firstBroken, audit}
 use Rattle.rules.specs.Meaning.{Tall, Sized, Formed, NoneOwn, Symmetric, Disjoint, NoCycle, PairFree, Both, HandsApart, Excludes}
 use Rattle.rules.specs.Meaning.{OwnedFrom, OwnersFree, Pairs, Sound, OfFour, Keeps}
 use Rattle.rules.proofs.Upto.{Upto, start, _next_, upto-at}
-use Rattle.rules.proofs.Exactly.{Exactly, itself, exactly-same, exactly-as, exactly-and, exactly-or, exactly-not, exactly-implies, exactly-eqb}
+use Rattle.rules.proofs.Exactly.{Exactly, itself, exactly-same, exactly-as, exactly-and, exactly-not, exactly-implies, exactly-eqb}
 use Rattle.rules.proofs.Exactly.{exactly-all, exactly-both, exactly-meet, Unless, unless-found, unless-as, unless-not}
 use Rattle.rules.proofs.NumberLaws.{given-out, given-in}
 use Rattle.rules.proofs.TradeLaws.{Shows, rows-show, step-from, step-to, subject-group, role-group, reach-shows, owner-shows, role-lt, subject-lt}
+use Rattle.rules.proofs.HeldLaws.{Holds, held-shows, HoldsAnywhere, anywhere-shows, open-order, hand-lt}
 use Rattle.rules.proofs.WordLaws.{well-formed}
 
 -- A test of all numbers 0 to 63 says it of each.
@@ -90,7 +91,7 @@ module _ (d : Book) (s : Sized d) where
       o-shows : Shows (λ o. OwnedFrom d (begin o)) (λ o. ownedTasks d (begin o))
       o-shows = owner-shows d s begin fit
 
-  -- Rules 9 and 10: what is asked of every task u, beside every task v, in every order p that has both.
+  -- Rule 10: what is asked of every task u, beside every task v, in every order p that has both.
   in-orders : (f : ℕ → ℕ → ℕ → ℕ → Bool) {P : ℕ → ℕ → ℕ → Type 0} → ((p u v : ℕ) → u < 64 → Exactly (f u p u v) (P p u v))
       → Always (λ u. inOrders (f u) d u) ((p u v : ℕ) → Both (d .row orders) p u v → P p u v)
   unfolding inOrders
@@ -104,26 +105,36 @@ module _ (d : Book) (s : Sized d) where
       o : Tall (d .row orders)
       o = s .rows orders
 
-  -- Rule 9: the test says that the two hands differ or are 0, the statement that they are not the same above 0.
-  hands-apart : Always (inOrders (handsApart d) d) (HandsApart (d .row orders) (d .cell) (Excludes (d .row SME) (d .row DME)))
-  hands-apart = in-orders (λ u. handsApart d) (λ p u v h.
-      exactly-as (λ f x e l. differ p u v e l (f x)) (λ f x. differs p u v (f x))
-      (exactly-implies (exactly-or (itself (bit (d .row SME u) v)) (itself (bit (d .row DME u) v)))
-      (exactly-or (exactly-not (exactly-eqb (hand p u) (hand p v))) (exactly-eqb (hand p u) 0))))
+  -- Rule 9 in a well-formed book, where every S is one of the 64 subjects that are asked: two cells with the same S above 0 are two tasks
+  -- that this subject holds, in one order or another for SME, in one order for DME.
+  hands-apart : Formed d → Always (handsApart d) (HandsApart (d .row orders) (d .cell) (Excludes (d .row SME) (d .row DME)))
+  unfolding handsApart
+  hands-apart f = exactly-as out into
+      (exactly-all 64 _ (λ c h. exactly-and
+      (pair-free (heldAnywhere d c) (HoldsAnywhere d c) (s .rows SME) (anywhere-shows d s .fits c h) (λ t. anywhere-shows d s .says c t h))
+      (exactly-all 64 _ (λ p hp. exactly-implies (itself (isOpen d p))
+      (pair-free (heldBy d p c) (Holds d p c) (s .rows DME) (held-shows d s p .fits c h) (λ t. held-shows d s p .says c t h))))))
     where
-      hand : ℕ → ℕ → ℕ
-      hand p t = subjectIn (d .cell p t)
+      Apart : ℕ → Type 0
+      Apart c =
+          PairFree (Step (d .row SME)) (HoldsAnywhere d c) × ((p : ℕ) → p < 64 → isOpen d p ≡ true → PairFree (Step (d .row DME)) (Holds d p c))
 
-      differ : (p u v : ℕ) → hand p u ≡ hand p v → 0 < hand p u → (hand p u ≡ hand p v → ⊥) ⊎ (hand p u ≡ 0) → ⊥
-      differ p u v e h (inl n) = n e
-      differ p u v e h (inr z) = omega arith
+      into : HandsApart (d .row orders) (d .cell) (Excludes (d .row SME) (d .row DME)) → (c : ℕ) → c < 64 → Apart c
+      into g c h = (
+        λ u v x (p, (i, e)) (q, (j, k)). g p q u v i j (inl x) (e ∙ sym k) (omega (arith, e)),
+        λ p hp q u v x (i, e) (j, k). g p p u v i j (inr (refl, x)) (e ∙ sym k) (omega (arith, e)),
+      )
 
-      differs : (p u v : ℕ) → (hand p u ≡ hand p v → 0 < hand p u → ⊥) → (hand p u ≡ hand p v → ⊥) ⊎ (hand p u ≡ 0)
-      differs p u v f = go (decLt 0 (hand p u))
+      out : ((c : ℕ) → c < 64 → Apart c) → HandsApart (d .row orders) (d .cell) (Excludes (d .row SME) (d .row DME))
+      out g p q u v i j x e h =
+          let c = subjectIn (d .cell p u) - 1 in
+          let mine : subjectIn (d .cell p u) ≡ suc c = omega arith in
+          meets c mine (g c (hand-lt d s f p u c mine)) x
         where
-          go : Dec (0 < hand p u) → (hand p u ≡ hand p v → ⊥) ⊎ (hand p u ≡ 0)
-          go (yes h) = inl (λ e. f e h)
-          go (no h) = inr (omega arith)
+          meets : (c : ℕ) → subjectIn (d .cell p u) ≡ suc c → Apart c → Excludes (d .row SME) (d .row DME) p q u v → ⊥
+          meets c mine free (inl y) = free .0 u v y (p, (i, mine)) (q, (j, sym e ∙ mine))
+          meets c mine free (inr (r, y)) =
+              free .1 p (step-from (s .rows orders) p u i) (open-order d p u i) u v y (i, mine) (subst (λ (z : ℕ). Holds d z c v) (sym r) (j, sym e ∙ mine))
 
   -- Rule 10, of the subject groups and the role groups.
   hands-together : Always (λ u. inOrders (handsTogether d (subjectGroup d u) (roleGroup d u)) d u) (Keeps d 10)
@@ -133,6 +144,8 @@ module _ (d : Book) (s : Sized d) where
       (exactly-implies (subject-group d s .says u v h) (exactly-eqb (subjectIn (d .cell p u)) (subjectIn (d .cell p v))))
       (exactly-implies (role-group d s .says u v h) (exactly-eqb (roleIn (d .cell p u)) (roleIn (d .cell p v))))))
 
+-- In a well-formed book:
+module _ (d : Book) (s : Sized d) (formed : Formed d) where
   -- The test of each rule holds exactly where its sentence does.
   pub keeps-exactly : (n : ℕ) → n ≤ ruleCount → Always (keptAt d n) (Keeps d n)
   unfolding keptAt rules
@@ -146,11 +159,11 @@ module _ (d : Book) (s : Sized d) where
           next apart-sets (s .rows SME) (rows-show (s .rows DME))
           next apart-sets (s .rows SME) (role-group d s)
           next apart-sets (s .rows DME) (subject-group d s)
-          next no-cycle
-          next owners-free role (role-lt d s)
-          next owners-free (subject d) (subject-lt d s)
-          next hands-apart
-          next hands-together
+          next no-cycle d s
+          next owners-free d s role (role-lt d s)
+          next owners-free d s (subject d) (subject-lt d s)
+          next hands-apart d s formed
+          next hands-together d s
 
   -- So a rule is broken unless it is kept.
   pub broken-unless : (n : ℕ) → n ≤ ruleCount → Unless (broken d n) (Keeps d n)
@@ -257,8 +270,13 @@ sound-kept d x n h = upto-at ten n (omega arith)
 module _ (d : Book) (s : Sized d) where
   -- A book that passes the audit is sound ..
   pub audit-sound : audit d ≡ accepted → Sound d
-  audit-sound e = let a = audit-out d e in kept-sound d (well-formed d s .means (a .0)) (none-broken d s .means (a .1))
+  audit-sound e =
+      let a = audit-out d e in
+      let f = well-formed d s .means (a .0) in
+      kept-sound d f (none-broken d s f .means (a .1))
 
   -- .. and a sound book passes the audit.
   pub sound-audit : Sound d → audit d ≡ accepted
-  sound-audit x = audit-in d (well-formed d s .fails (sound-formed d x)) (none-broken d s .fails (λ n l h. sound-kept d x n h))
+  sound-audit x =
+      let f = sound-formed d x in
+      audit-in d (well-formed d s .fails f) (none-broken d s f .fails (λ n l h. sound-kept d x n h))

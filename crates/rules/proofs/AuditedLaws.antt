@@ -69,8 +69,8 @@ pub answers-sound : AnswersSound
 answers-sound w fit =
     let d = read w in
     let s = read-sized w fit in (
-      λ e. (let a = audit-out d (sym (whole-audit w) ∙ e) in (well-formed d s .means (a .0), none-broken d s .means (a .1))),
-      λ x. whole-audit w ∙ audit-in d (well-formed d s .fails (x .0)) (none-broken d s .fails (x .1)),
+      λ e. (let a = audit-out d (sym (whole-audit w) ∙ e) in let f = well-formed d s .means (a .0) in (f, none-broken d s f .means (a .1))),
+      λ x. whole-audit w ∙ audit-in d (well-formed d s .fails (x .0)) (none-broken d s (x .0) .fails (x .1)),
     )
 
 -- STATEMENT 2: 40 + n exactly of the well-formed books that break rule n and keep every lower one.
@@ -87,18 +87,19 @@ answers-lowest w fit n l h = (out, into)
     out : audited bookWords w ≡ say (40 + n) → Formed d × (Keeps d n → ⊥) × ((k : ℕ) → 1 ≤ k → k < n → Keeps d k)
     out e =
         let x = broken-only d n (sym (whole-audit w) ∙ e) in
-        let found = ltb-true (firstBroken d) (ruleCount + 1) (x .1) in (
-          well-formed d s .means (x .0),
+        let found = ltb-true (firstBroken d) (ruleCount + 1) (x .1) in
+        let f = well-formed d s .means (x .0) in (
+          f,
           λ p. not-both (broken d n)
               (subst (λ (k : ℕ). broken d k ≡ true) (x .2) (lowest-passes ruleCount 1 (broken d) (omega arith)))
-              (broken-unless d s n h .fails p),
-          λ k m p. broken-unless d s k (omega arith) .means (lowest-first ruleCount 1 (broken d) k m (omega arith)),
+              (broken-unless d s f n h .fails p),
+          λ k m p. broken-unless d s f k (omega arith) .means (lowest-first ruleCount 1 (broken d) k m (omega arith)),
         )
 
     into : Formed d × (Keeps d n → ⊥) × ((k : ℕ) → 1 ≤ k → k < n → Keeps d k) → audited bookWords w ≡ say (40 + n)
     into x =
         let breaks = not-kept (x .1) in
-        let same = lowest-is ruleCount 1 (broken d) n l (omega arith) breaks (λ k m p. broken-unless d s k (omega arith) .fails (x .2 k m p)) in
+        let same = lowest-is ruleCount 1 (broken d) n l (omega arith) breaks (λ k m p. broken-unless d s (x .0) k (omega arith) .fails (x .2 k m p)) in
         whole-audit w ∙ broken-told d n (well-formed d s .fails (x .0)) (lt-ltb (firstBroken d) (ruleCount + 1) (omega arith)) same
       where
         not-kept : (Keeps d n → ⊥) → broken d n ≡ true
@@ -106,7 +107,7 @@ answers-lowest w fit n l h = (out, into)
           where
             go : (t : Bool) → broken d n ≡ t → broken d n ≡ true
             go true e = e
-            go false e = absurd (f (broken-unless d s n h .means e))
+            go false e = absurd (f (broken-unless d s (x .0) n h .means e))
 
 -- STATEMENT 3: 2 with the lowest bad word; and where no word is bad the book is well-formed.
 pub answers-bad : AnswersBad

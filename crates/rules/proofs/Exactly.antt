@@ -1,7 +1,6 @@
 -- A test that holds exactly where a statement does, and how such tests are put together.
 -- The rules of the audit are tests made of `&&`, `not`, `all` and the like: what each stands for is read off by these laws.
 use mathlib.Core.Path.{_≡_, refl, sym, ap}
-use mathlib.Core.Logic.{_⊎_, inl, inr}
 use mathlib.Core.Bool.{Bool, true, false, _&&_, _||_, not, true≢false}
 use Prim.Native.Nat.{ℕ, _+_, _^_, _≤_, _<_}
 use native.Mathlib.Omega.{arith}
@@ -9,7 +8,7 @@ use lib.Dec.{ltb, eqb}
 use borrow.Author.Tests.{eqb-true, eq-eqb, ltb-true, ltb-false, not-false}
 use Rattle.sets.specs.Mask.{within, meet}
 use Rattle.sets.specs.Search.{lowestFrom, all}
-use Rattle.sets.proofs.Logic.{and-out, and-in, or-in-l, or-in-r, or-out, or-fails-out, or-fails, not-both, refute, not-in, not-out}
+use Rattle.sets.proofs.Logic.{and-out, and-in, or-fails-out, or-fails, not-both, refute, not-in, not-out}
 use Rattle.sets.proofs.MaskLaws.{within-out, within-in, meet-in}
 use Rattle.sets.proofs.SearchLaws.{lowest-passes, lowest-first, lowest-from, all-out, all-in, meet-out}
 use Rattle.chains.specs.Relation.{In}
@@ -43,18 +42,6 @@ exactly-and {s} {t} x y = record {
   means = λ e. (let z = and-out s t e in (x .means (z .0), y .means (z .1)));
   holds = λ z. and-in (x .holds (z .0)) (y .holds (z .1));
 }
-
--- One of two tests.
-pub exactly-or : {s t : Bool} {P Q : Type 0} → Exactly s P → Exactly t Q → Exactly (s || t) (P ⊎ Q)
-exactly-or {s} {t} {P} {Q} x y = record { means = λ e. out (or-out s t e); holds = into }
-  where
-    out : (s ≡ true) ⊎ (t ≡ true) → P ⊎ Q
-    out (inl e) = inl (x .means e)
-    out (inr e) = inr (y .means e)
-
-    into : P ⊎ Q → (s || t) ≡ true
-    into (inl p) = or-in-l s t (x .holds p)
-    into (inr q) = or-in-r s t (y .holds q)
 
 -- A test that must fail.
 pub exactly-not : {t : Bool} {P : Type 0} → Exactly t P → Exactly (not t) (P → ⊥)

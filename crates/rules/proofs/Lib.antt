@@ -6,6 +6,7 @@ pub mod BookLaws
 pub mod ChangeLaws
 pub mod TableLaws
 pub mod TradeLaws
+pub mod HeldLaws
 pub mod ShortChains
 pub mod WordLaws
 pub mod AuditLaws

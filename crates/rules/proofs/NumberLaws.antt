@@ -1,15 +1,17 @@
 -- What the answer 0 says: each test on the way fails, and the rest gives 0 too; and back.
--- Every refusal and conflict is asked by `given`, `givenLowest` or `givenPair`, so these laws read all of them.
+-- Every refusal and conflict is asked by `given`, `givenLowest`, `givenPairIn` or `givenLowestPair`, so these laws read all of them.
 use mathlib.Core.Path.{_≡_, refl, ap, _∙_}
-use mathlib.Core.Bool.{Bool, true, false, not}
+use mathlib.Core.Bool.{Bool, true, false, _&&_, not}
 use Prim.Native.Nat.{ℕ, _<_}
 use lib.Dec.{ltb}
 use borrow.Author.Tests.{not-false}
-use Rattle.sets.specs.Search.{lowest, paired}
+use Rattle.sets.specs.Search.{lowest}
+use Rattle.sets.proofs.Logic.{and-out, and-in, not-both, refute}
 use Rattle.sets.proofs.SearchLaws.{none-passes, none-found, no-pair, pair-none}
 use Rattle.rules.specs.Book.{Book, bookWords, firstBad}
 use Rattle.rules.specs.Requests.{Request, Row, rowOf, fits}
-use Rattle.rules.specs.Numbers.{Named, Said, accepted, says, given, givenLowest, givenPair, argumentFault, stateRefusal, refusal, conflict, orElse, judge}
+use Rattle.rules.specs.Numbers.{Named, Said, accepted, says, given, givenLowest, somePair, givenPairIn, givenLowestPair}
+use Rattle.rules.specs.Numbers.{argumentFault, stateRefusal, refusal, conflict, orElse, judge}
 use Rattle.rules.proofs.SaidLaws.{said-not-accepted}
 
 -- Where an answer is 0, its test failed and the rest gave 0 ..
@@ -34,16 +36,32 @@ unfolding givenLowest
 lowest-in n f rest h e = given-in (ltb (lowest f) 64) _ rest (none-found f h) e
 
 -- A search for a pair gives 0 exactly where no pair of numbers below 64 passes, and the rest gives 0 ..
-pub pair-out : (n : ℕ) (f : ℕ → ℕ → Bool) (rest : Said) → givenPair n f rest ≡ accepted
+pub pair-out : (n : ℕ) (f : ℕ → ℕ → Bool) (z : ℕ) (rest : Said) → givenPairIn n f z rest ≡ accepted
     → ((u v : ℕ) → u < 64 → v < 64 → f u v ≡ false) × (rest ≡ accepted)
-unfolding givenPair
-pair-out n f rest e = let g = given-out (ltb (lowest (paired f)) 64) n _ rest e in (no-pair f (g .0), g .1)
+unfolding givenPairIn
+pair-out n f z rest e = let g = given-out (somePair f) n _ rest e in (no-pair f (g .0), g .1)
 
 -- .. and back.
-pub pair-in : (n : ℕ) (f : ℕ → ℕ → Bool) (rest : Said) → ((u v : ℕ) → u < 64 → v < 64 → f u v ≡ false)
-    → rest ≡ accepted → givenPair n f rest ≡ accepted
-unfolding givenPair
-pair-in n f rest h e = given-in (ltb (lowest (paired f)) 64) _ rest (pair-none f h) e
+pub pair-in : (n : ℕ) (f : ℕ → ℕ → Bool) (z : ℕ) (rest : Said) → ((u v : ℕ) → u < 64 → v < 64 → f u v ≡ false)
+    → rest ≡ accepted → givenPairIn n f z rest ≡ accepted
+unfolding givenPairIn
+pair-in n f z rest h e = given-in (somePair f) _ rest (pair-none f h) e
+
+-- A search for the lowest of those asked that has a pair gives 0 exactly where none of them has one, and the rest gives 0 ..
+pub lowest-pair-out : (n : ℕ) (asked : ℕ → Bool) (f : ℕ → ℕ → ℕ → Bool) (rest : Said) → givenLowestPair n asked f rest ≡ accepted
+    → ((p u v : ℕ) → p < 64 → u < 64 → v < 64 → asked p ≡ true → f p u v ≡ false) × (rest ≡ accepted)
+unfolding givenLowestPair
+lowest-pair-out n asked f rest e =
+    let has : ℕ → Bool = λ p. asked p && somePair (f p) in
+    let g = given-out (ltb (lowest has) 64) n _ rest e in
+    (λ p u v h hu hv q. no-pair (f p) (refute _ (λ s. not-both _ (and-in q s) (none-passes has (g .0) p h))) u v hu hv, g .1)
+
+-- .. and back.
+pub lowest-pair-in : (n : ℕ) (asked : ℕ → Bool) (f : ℕ → ℕ → ℕ → Bool) (rest : Said)
+    → ((p u v : ℕ) → p < 64 → u < 64 → v < 64 → asked p ≡ true → f p u v ≡ false) → rest ≡ accepted → givenLowestPair n asked f rest ≡ accepted
+unfolding givenLowestPair
+lowest-pair-in n asked f rest h e = given-in _ _ rest (none-found (λ p. asked p && somePair (f p)) (λ p hp.
+    refute _ (λ s. let x = and-out (asked p) (somePair (f p)) s in not-both _ (x .1) (pair-none (f p) (λ u v hu hv. h p u v hp hu hv (x .0)))))) e
 
 -- The first of two answers that is not 0: 0 where both are ..
 pub orElse-out : (s t : Said) → orElse s t ≡ accepted → (s ≡ accepted) × (t ≡ accepted)

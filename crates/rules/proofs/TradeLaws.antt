@@ -1,23 +1,18 @@
--- Reach, owns, the groups and what a subject holds, as the document says them: each computed set has exactly the members that it should.
-use mathlib.Core.Path.{_≡_, refl, subst}
+-- Reach, owns and the groups, as the document says them: each computed set has exactly the members that it should.
 use mathlib.Core.Logic.{inl, inr}
-use mathlib.Core.Bool.{Bool, true, false}
-use Prim.Native.Nat.{ℕ, suc, _^_, _<_}
+use Prim.Native.Nat.{ℕ, _^_, _<_}
 use native.Mathlib.Omega.{arith}
 use native.Mathlib.Decide.{decLt}
-use lib.Dec.{eqb}
 use lib.Bits.{bitOr, or-lt}
 use lib.Pow.{pow-lt}
-use borrow.Author.Tests.{eqb-true, eq-eqb, ne-eqb}
-use Rattle.sets.specs.Mask.{bit, only}
-use Rattle.sets.proofs.MaskLaws.{bit-lt, in-one, one-out, zero-none, in-l, in-r, in-cases, only-lt, joined-in, joined-out, joined-lt}
+use Rattle.sets.specs.Mask.{bit}
+use Rattle.sets.proofs.MaskLaws.{bit-lt, zero-none, in-l, in-r, in-cases, joined-in, joined-out, joined-lt}
 use Rattle.chains.specs.Relation.{Relation, In, Step, Chain, stay, more, Reaches}
 use Rattle.chains.specs.Closure.{group}
 use Rattle.chains.proofs.RelationLaws.{chain-map, chain-join}
 use Rattle.chains.proofs.ClosureLaws.{From, close-lt, close-chain, from-close, group-chain, chain-group, group-lt}
-use Rattle.rules.specs.Book.{Book, RB, SB, juniors, tasksOf, rolesOf, orders, subjectIn}
+use Rattle.rules.specs.Book.{Book, RB, SB, juniors, tasksOf, rolesOf}
 use Rattle.rules.specs.Trade.{Owner, role, subject, below, reach, ownedTasks, subjectGroup, roleGroup}
-use Rattle.rules.specs.Numbers.{heldBy}
 use Rattle.rules.specs.Meaning.{Tall, Sized, OwnedFrom, Mixed}
 use Rattle.rules.specs.Chained.{ReachMeans, OwnsMeans, GroupsMean}
 use Rattle.rules.proofs.Exactly.{Exactly, exactly-as}
@@ -160,35 +155,6 @@ module _ (d : Book) (s : Sized d) where
     fits = λ o h. owned-lt (start o);
     says = λ o t h. record { means = owned-out (start o) t; holds = owned-in (start o) t (fit o h) };
   }
-
--- Subject c holds task t in order p: t is a task of the order, and S in its cell is c.
-abbrev pub Holds : Book → ℕ → Relation
-Holds d p c t = Step (d .row orders) p t × (subjectIn (d .cell p t) ≡ suc c)
-
--- The sets of held tasks show who holds what.
-pub held-shows : (d : Book) → Sized d → (p : ℕ) → Shows (Holds d p) (heldBy d p)
-unfolding heldBy
-held-shows d s p = record {
-  fits = λ c h. joined-lt (mine c) (λ t. mine-lt c t (decLt t 64)) 64 (d .row orders p);
-  says = λ c t h. record {
-    means = λ e. (let w = joined-out (mine c) 64 (d .row orders p) t e in out c t (w .0) (w .1) (eqb (subjectIn (d .cell p (w .0))) (suc c)) refl (w .2));
-    holds = λ (i, e).
-        joined-in (mine c) 64 (d .row orders p) t t (step-to (s .rows orders) p t i) i (rw (eq-eqb (subjectIn (d .cell p t)) (suc c) e) (in-one t));
-  };
-}
-  where
-    mine : ℕ → ℕ → ℕ
-    mine c t = only (eqb (subjectIn (d .cell p t)) (suc c)) (2 ^ t)
-
-    mine-lt : (c t : ℕ) → Dec (t < 64) → mine c t < 2 ^ 64
-    mine-lt c t (yes h) = only-lt (eqb (subjectIn (d .cell p t)) (suc c)) (2 ^ t) (pow-lt h)
-    mine-lt c t (no h) =
-        let z = s .cells p t (inr (omega arith)) in
-        rw (ne-eqb (subjectIn (d .cell p t)) (suc c) (λ e. omega arith)) (omega arith)
-
-    out : (c t u : ℕ) → Step (d .row orders) p u → (b : Bool) → eqb (subjectIn (d .cell p u)) (suc c) ≡ b → In (only b (2 ^ u)) t → Holds d p c t
-    out c t u i true e q = subst (Holds d p c) (one-out u t q) (i, eqb-true (subjectIn (d .cell p u)) (suc c) e)
-    out c t u i false e q = absurd (zero-none t refl q)
 
 -- STATEMENT 1: what reach means.
 pub reach-means : ReachMeans

@@ -1,21 +1,22 @@
--- Document 01, "The audit": ten rules, each a test that computes, and the answer. It only reads.
+-- Document 01, "The audit", with M-104: ten rules, each a test that computes, and the answer. It only reads.
 -- Meaning.antt says of each rule what it stands for, over relations; proofs/AuditLaws.antt shows that the test holds exactly then.
-use mathlib.Core.Bool.{Bool, true, false, _&&_, _||_, not}
+use mathlib.Core.Bool.{Bool, true, false, _&&_, not}
 use mathlib.Core.List.{List, [], _∷_}
-use Prim.Native.Nat.{ℕ, _+_}
+use Prim.Native.Nat.{ℕ, _+_, _-_, _^_}
 use lib.Dec.{ltb, eqb}
 use lib.ListN.{getD}
-use Rattle.sets.specs.Mask.{bit, meet}
+use Rattle.sets.specs.Mask.{bit, meet, only, joined}
 use Rattle.sets.specs.Search.{lowestFrom, all}
 use Rattle.rules.specs.Book.{Book, bookWords, SME, DME, RB, SB, orders, roleIn, subjectIn, read, firstBad}
-use Rattle.rules.specs.Trade.{Owner, role, subject, reach, ownedTasks, excludes, subjectGroup, roleGroup}
-use Rattle.rules.specs.Numbers.{Said, accepted, say, sayX, given}
+use Rattle.rules.specs.Trade.{Owner, role, subject, reach, ownedTasks, subjectGroup, roleGroup}
+use Rattle.rules.specs.Requests.{isOpen}
+use Rattle.rules.specs.Numbers.{Said, accepted, say, sayX, given, heldBy}
 
 abbrev pub implies : Bool → Bool → Bool
 implies true t = t
 implies false t = true
 
--- What a rule asks of one number: of task x in 1 to 5, 9 and 10, of role x in 6 and 7, of subject x in 8.
+-- What a rule asks of one number: of task x in 1 to 5 and 10, of role x in 6 and 7, of subject x in 8 and 9.
 abbrev pub Rule : Type 0
 Rule = Book → ℕ → Bool
 
@@ -53,16 +54,20 @@ sameSubject d p u v = eqb (subjectIn (d .cell p u)) (subjectIn (d .cell p v))
 abbrev pub sameRole : Book → ℕ → ℕ → ℕ → Bool
 sameRole d p u v = eqb (roleIn (d .cell p u)) (roleIn (d .cell p v))
 
+-- the tasks that subject s holds in one open order or another
+unfoldable pub heldAnywhere : Book → ℕ → ℕ
+heldAnywhere d s = joined 64 (λ p. only (isOpen d p) (heldBy d p s)) (2 ^ 64 - 1)
+
+-- 9. No subject holds both tasks of an SME pair, in whatever open orders, nor both tasks of a DME pair in one.
+unfoldable pub handsApart : Book → ℕ → Bool
+handsApart d s = pairFree (d .row SME) (heldAnywhere d s) && all 64 (λ p. implies (isOpen d p) (pairFree (d .row DME) (heldBy d p s)))
+
 -- what is asked of task u in order p, if it is a task of the order, beside each task v of the order
 abbrev pub inOrder : (ℕ → ℕ → ℕ → Bool) → Book → ℕ → ℕ → Bool
 inOrder f d u p = implies (bit (d .row orders p) u) (all 64 (λ v. implies (bit (d .row orders p) v) (f p u v)))
 
 unfoldable pub inOrders : (ℕ → ℕ → ℕ → Bool) → Book → ℕ → Bool
 inOrders f d u = all 64 (inOrder f d u)
-
--- 9. In one open order, no two cells of an excluding pair have the same S above 0.
-abbrev pub handsApart : Book → ℕ → ℕ → ℕ → Bool
-handsApart d p u v = implies (excludes d u v) (not (sameSubject d p u v) || eqb (subjectIn (d .cell p u)) 0)
 
 -- 10. In one open order, looking only at the cells of its own tasks:
 -- those of one subject group have all the same S, and those of one role group all the same E (0 counts as a value).
@@ -81,7 +86,7 @@ rules =
     ∷ (λ d. notOwn (reach d))
     ∷ (λ d. ownerFree d role)
     ∷ (λ d. ownerFree d (subject d))
-    ∷ (λ d. inOrders (handsApart d) d)
+    ∷ handsApart
     ∷ (λ d u. inOrders (handsTogether d (subjectGroup d u) (roleGroup d u)) d u)
     ∷ []
 

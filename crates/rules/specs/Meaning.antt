@@ -82,9 +82,14 @@ PairFree X O = (u v : ℕ) → X u v → O u → O v → ⊥
 abbrev pub Both : (ℕ → ℕ) → ℕ → Relation
 Both o p u v = Step o p u × Step o p v
 
--- Rule 9. In one order no two cells of an excluding pair have the same S above 0.
-abbrev pub HandsApart : (ℕ → ℕ) → (ℕ → ℕ → ℕ) → Relation → Type 0
-HandsApart o cell X = (p u v : ℕ) → Both o p u v → X u v → subjectIn (cell p u) ≡ subjectIn (cell p v) → 0 < subjectIn (cell p u) → ⊥
+-- A relation of two cells: that of task u in order p, and that of task v in order q.
+abbrev pub CellRelation : Type 1
+CellRelation = (p q u v : ℕ) → Type 0
+
+-- Rule 9. No two cells of open orders that exclude each other have the same S above 0.
+abbrev pub HandsApart : (ℕ → ℕ) → (ℕ → ℕ → ℕ) → CellRelation → Type 0
+HandsApart o cell X =
+    (p q u v : ℕ) → Step o p u → Step o q v → X p q u v → subjectIn (cell p u) ≡ subjectIn (cell q v) → 0 < subjectIn (cell p u) → ⊥
 
 -- Rule 10. In one order the cells of one group have all the same value.
 abbrev pub OneValue : (ℕ → ℕ) → (ℕ → ℕ → ℕ) → Relation → (ℕ → ℕ) → Type 0
@@ -118,9 +123,9 @@ pub record Ranks (T R S : ℕ) (j g h act : ℕ → ℕ) : Type 0 where
   pub active-formed : (s r : ℕ) → act s ≡ suc r → In S s × In R r
   pub rule6 : NoCycle (Step j)
 
--- SME or DME.
-abbrev pub Excludes : (ℕ → ℕ) → (ℕ → ℕ) → Relation
-Excludes x y u v = Step x u v ⊎ Step y u v
+-- Two cells exclude each other by SME, in whatever orders they are, or by DME, in one order.
+abbrev pub Excludes : (ℕ → ℕ) → (ℕ → ℕ) → CellRelation
+Excludes x y p q u v = Step x u v ⊎ ((p ≡ q) × Step y u v)
 
 -- Orders o and their cells.
 pub record Orders (T R S : ℕ) (x y r s o : ℕ → ℕ) (cell : ℕ → ℕ → ℕ) : Type 0 where

@@ -1,4 +1,4 @@
--- Document 01, "The numbers that come back", with M-100: refusals 1 to 11, the conflicts 20 to 34, the answer and the book afterwards.
+-- Document 01, "The numbers that come back", with M-100 and M-104: refusals 1 to 11, the conflicts 20 to 34, the answer and the book afterwards.
 use mathlib.Core.Bool.{Bool, true, false, _&&_, not}
 use mathlib.Core.List.{List, [], _∷_}
 use Prim.Native.Nat.{ℕ, suc, _-_, _^_}
@@ -10,10 +10,11 @@ use Rattle.rules.specs.Trade.{Owner, role, subject, reach, ownsRole, own
 use Rattle.rules.specs.Requests.{Request, Deed, nothing, define, relate, assign, activate, openOrder, allocate, closeOrder, takeBack, unrelate}
 use Rattle.rules.specs.Requests.{Row, rowOf, fits, isOpen, roleHand, subjectHand, change}
 
--- What an answer names beside its number: x and y, which are 0 where nothing is said.
+-- What an answer names beside its number: x, y and z, which are 0 where nothing is said.
 pub record Named : Type 0 where
   pub x : ℕ
   pub y : ℕ
+  pub z : ℕ
 
 -- An answer is 0, accepted, or another number with what it names:
 pub data Said : Type 0 where
@@ -22,22 +23,26 @@ pub data Said : Type 0 where
 
 -- nothing,
 abbrev pub say : ℕ → Said
-say n = says n (record { x = 0; y = 0 })
+say n = says n (record { x = 0; y = 0; z = 0 })
 
 -- x,
 abbrev pub sayX : ℕ → ℕ → Said
-sayX n x = says n (record { x = x; y = 0 })
+sayX n x = says n (record { x = x; y = 0; z = 0 })
 
--- or x and y.
+-- x and y,
 abbrev pub sayXY : ℕ → ℕ → ℕ → Said
-sayXY n x y = says n (record { x = x; y = y })
+sayXY n x y = says n (record { x = x; y = y; z = 0 })
+
+-- or x, y and z.
+abbrev pub sayXYZ : ℕ → ℕ → ℕ → ℕ → Said
+sayXYZ n x y z = says n (record { x = x; y = y; z = z })
 
 abbrev pub numberOf : Said → ℕ
 numberOf accepted = 0
 numberOf (says n r) = n
 
 abbrev pub namedBy : Said → Named
-namedBy accepted = record { x = 0; y = 0 }
+namedBy accepted = record { x = 0; y = 0; z = 0 }
 namedBy (says n r) = r
 
 -- the number is 0
@@ -53,9 +58,24 @@ given t s rest = elim t [ true ↦ s | false ↦ rest ]
 unfoldable pub givenLowest : ℕ → (ℕ → Bool) → Said → Said
 givenLowest n f rest = let i = lowest f in given (ltb i 64) (sayX n i) rest
 
--- number n with x the lowest that has a partner, then y its lowest partner
-unfoldable pub givenPair : ℕ → (ℕ → ℕ → Bool) → Said → Said
-givenPair n f rest = let i = lowest (paired f) in given (ltb i 64) (sayXY n i (lowest (f i))) rest
+-- some number has a partner
+abbrev pub somePair : (ℕ → ℕ → Bool) → Bool
+somePair f = ltb (lowest (paired f)) 64
+
+-- number n with x the lowest that has a partner, then y its lowest partner; z is given
+abbrev pub sayPair : ℕ → (ℕ → ℕ → Bool) → ℕ → Said
+sayPair n f z = let i = lowest (paired f) in sayXYZ n i (lowest (f i)) z
+
+unfoldable pub givenPairIn : ℕ → (ℕ → ℕ → Bool) → ℕ → Said → Said
+givenPairIn n f z rest = given (somePair f) (sayPair n f z) rest
+
+-- the same where nothing is said of z
+abbrev pub givenPair : ℕ → (ℕ → ℕ → Bool) → Said → Said
+givenPair n f = givenPairIn n f 0
+
+-- number n with z the lowest of those asked whose pairs there are some of, then x and y the lowest for it
+unfoldable pub givenLowestPair : ℕ → (ℕ → Bool) → (ℕ → ℕ → ℕ → Bool) → Said → Said
+givenLowestPair n asked f rest = let p = lowest (λ p. asked p && somePair (f p)) in given (ltb p 64) (sayPair n (f p) p) rest
 
 -- 4: an argument is not what it must be; x = 1, 2 or 3, the first at fault
 unfoldable pub argumentFault : Book → Row → ℕ → ℕ → ℕ → Said → Said
@@ -204,12 +224,17 @@ ownRoleAssignment d a b = givenPair 32 (clashes d (subject d) (eqb b) (gainedRol
 unfoldable pub heldBy : Book → ℕ → ℕ → ℕ
 heldBy d b c = joined 64 (λ t. only (eqb (subjectIn (d .cell b t)) (suc c)) (2 ^ t)) (d .row orders b)
 
--- 33 / 34: c already holds a task x in order b that is SME / DME to a task y of a's subject group in the order
-unfoldable pub heldSme : ℕ → Conflict
-heldSme c d a b = givenPair 33 (between (d .row SME) (heldBy d b c) (subjectHand d a b))
+-- c holds in order p a task x of table n to a task y of a's subject group in order b
+abbrev pub holds : ℕ → ℕ → Book → ℕ → ℕ → ℕ → ℕ → ℕ → Bool
+holds n c d a b p = between (d .row n) (heldBy d p c) (subjectHand d a b)
 
+-- 33: c holds, in any open order, a task x SME to a task y of a's subject group in order b; z = lowest such order, x and y the lowest for it
+unfoldable pub heldSme : ℕ → Conflict
+heldSme c d a b = givenLowestPair 33 (isOpen d) (holds SME c d a b)
+
+-- 34: c holds in order b a task x DME to a task y of a's subject group in the order; z = b
 unfoldable pub heldDme : ℕ → Conflict
-heldDme c d a b = givenPair 34 (between (d .row DME) (heldBy d b c) (subjectHand d a b))
+heldDme c d a b = givenPairIn 34 (holds DME c d a b b) b
 
 -- Conflicts by kind, in the order listed. 4: 20, 21, 23, 24, 25, 26.
 unfoldable pub smeConflicts : List Conflict

@@ -1,11 +1,11 @@
--- Document 01, "Words of the trade": reach, owns, the two groups, excludes.
+-- Document 01, "Words of the trade": reach, owns, the two groups. What excludes what is said where rule 9 is (Meaning.antt).
 -- proofs/TradeLaws.antt shows that each computed set is what the document says of chains.
-use mathlib.Core.Bool.{Bool, _||_}
+use mathlib.Core.Bool.{Bool}
 use Prim.Native.Nat.{ℕ, _^_}
 use lib.Bits.{bitOr}
 use Rattle.sets.specs.Mask.{bit, joined}
 use Rattle.chains.specs.Closure.{close, group}
-use Rattle.rules.specs.Book.{Book, SME, DME, RB, SB, juniors, tasksOf, rolesOf}
+use Rattle.rules.specs.Book.{Book, RB, SB, juniors, tasksOf, rolesOf}
 
 -- the roles of m and all roles that they reach
 unfoldable pub below : Book → ℕ → ℕ
@@ -44,7 +44,3 @@ mixed d m n u = bitOr (d .row m u) (d .row n u)
 -- The role group is the same with SB and RB mixed.
 unfoldable pub roleGroup : Book → ℕ → ℕ
 roleGroup d t = group (mixed d SB RB) t
-
--- u excludes v if v is in u's SME or DME row.
-abbrev pub excludes : Book → ℕ → ℕ → Bool
-excludes d u v = bit (d .row SME u) v || bit (d .row DME u) v

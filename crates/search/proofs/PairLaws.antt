@@ -3,6 +3,7 @@ use mathlib.Core.Path.{_≡_, refl, sym, ap, _∙_}
 use mathlib.Core.Bool.{Bool, true, false, _&&_}
 use Prim.Native.Nat.{ℕ, _-_, _^_, _≤_, _<_}
 use native.Mathlib.Omega.{arith}
+use native.Mathlib.Decide.{decLt}
 use lib.Dec.{ltb}
 use lib.Bits.{bitAnd}
 use borrow.Author.Tests.{lt-ltb, le-ltb}
@@ -10,12 +11,12 @@ use Rattle.sets.specs.Mask.{bit, without}
 use Rattle.sets.specs.Search.{lowest, paired}
 use Rattle.sets.proofs.Logic.{and-fails-l}
 use Rattle.sets.proofs.MaskLaws.{bit-and, bit-not}
-use Rattle.sets.proofs.SearchLaws.{lowest-passes, lowest-same, none-found}
+use Rattle.sets.proofs.SearchLaws.{lowest-passes, lowest-most, lowest-same, none-found}
 use Rattle.sets.proofs.MemberLaws.{lowest-lt, lowest-in, Seen, seen-on, seen-at}
-use Rattle.rules.specs.Numbers.{Said, sayXY, given, givenPair, outside, between}
+use Rattle.rules.specs.Numbers.{Said, sayXYZ, somePair, given, givenPairIn, outside, between}
 use Rattle.search.specs.declared.Found.{Found}
 use Rattle.search.specs.declared.Found.the-variants.{Pair, Nothing}
-use Rattle.search.specs.Pairs.{pairOf, foundPair, sayPair}
+use Rattle.search.specs.Pairs.{isPair, pairOf, foundPair, toldPair}
 
 module _ (f : ℕ → ℕ → Bool) where
   -- The pair is x, the lowest with a partner, and y, its lowest partner.
@@ -32,22 +33,46 @@ module _ (f : ℕ → ℕ → Bool) where
   nothing-at e = ap (pairOf f) e
 
   -- The pair said as an answer is the answer of the rules.
-  pub pair-said : (n : ℕ) (rest : Said) → sayPair n (foundPair f) rest ≡ givenPair n f rest
-  unfolding foundPair pairOf givenPair given
-  pair-said n rest = go (lowest (paired f)) (ltb (lowest (paired f)) 64)
+  pub pair-said : (n z : ℕ) (rest : Said) → toldPair n (foundPair f) z rest ≡ givenPairIn n f z rest
+  unfolding foundPair pairOf givenPairIn given
+  pair-said n z rest = go (lowest (paired f)) (ltb (lowest (paired f)) 64)
     where
-      go : (x : ℕ) (t : Bool) → sayPair n (elim t [ true ↦ Pair x (lowest (f x)) | false ↦ Nothing ]) rest
-          ≡ (elim t as (λ (z : Bool). Said) [ true ↦ sayXY n x (lowest (f x)) | false ↦ rest ])
+      go : (x : ℕ) (t : Bool) → toldPair n (elim t [ true ↦ Pair x (lowest (f x)) | false ↦ Nothing ]) z rest
+          ≡ (elim t as (λ (z : Bool). Said) [ true ↦ sayXYZ n x (lowest (f x)) z | false ↦ rest ])
       go x true = refl
       go x false = refl
 
   -- For a caller of a search that gave v: where v is a pair, the number is given with it ..
-  pub given-pair : (n : ℕ) (rest : Said) {v : Found} {x y : ℕ} → v ≡ foundPair f → v ≡ Pair x y → givenPair n f rest ≡ sayXY n x y
-  given-pair n rest e p = sym (pair-said n rest) ∙ ap (λ (w : Found). sayPair n w rest) (sym e ∙ p)
+  pub given-pair : (n z : ℕ) (rest : Said) {v : Found} {x y : ℕ} → v ≡ foundPair f → v ≡ Pair x y → givenPairIn n f z rest ≡ sayXYZ n x y z
+  given-pair n z rest e p = sym (pair-said n z rest) ∙ ap (λ (w : Found). toldPair n w z rest) (sym e ∙ p)
 
   -- .. and where it is nothing, the rest is asked.
-  pub given-nothing : (n : ℕ) (rest : Said) {v : Found} → v ≡ foundPair f → v ≡ Nothing → givenPair n f rest ≡ rest
-  given-nothing n rest e p = sym (pair-said n rest) ∙ ap (λ (w : Found). sayPair n w rest) (sym e ∙ p)
+  pub given-nothing : (n z : ℕ) (rest : Said) {v : Found} → v ≡ foundPair f → v ≡ Nothing → givenPairIn n f z rest ≡ rest
+  given-nothing n z rest e p = sym (pair-said n z rest) ∙ ap (λ (w : Found). toldPair n w z rest) (sym e ∙ p)
+
+  -- There is a pair exactly where one is found.
+  pub found-some : {v : Found} → v ≡ foundPair f → isPair v ≡ somePair f
+  unfolding foundPair pairOf
+  found-some e = ap isPair e ∙ go (lowest (paired f)) (ltb (lowest (paired f)) 64)
+    where
+      go : (x : ℕ) (t : Bool) → isPair (elim t [ true ↦ Pair x (lowest (f x)) | false ↦ Nothing ]) ≡ t
+      go x true = refl
+      go x false = refl
+
+-- Two tests that say the same of all numbers of 0..63 have the same pair.
+pub found-same : (f g : ℕ → ℕ → Bool) → ((u v : ℕ) → u < 64 → v < 64 → f u v ≡ g u v) → foundPair f ≡ foundPair g
+found-same f g same = go (decLt (lowest (paired f)) 64)
+  where
+    first : lowest (paired f) ≡ lowest (paired g)
+    first = lowest-same (paired f) (paired g) (λ u hu. ap (λ (k : ℕ). ltb k 64) (lowest-same (f u) (g u) (λ v hv. same u v hu hv)))
+
+    go : Dec (lowest (paired f) < 64) → foundPair f ≡ foundPair g
+    go (yes h) =
+        let x = lowest (paired f) in
+        sym (found-at f x (lowest (f x)) h refl refl) ∙ found-at g x (lowest (f x)) h first (lowest-same (f x) (g x) (λ v hv. same x v h hv))
+    go (no h) =
+        let end : 64 ≡ lowest (paired f) = omega (arith, lowest-most 64 0 (paired f)) in
+        sym (nothing-at f end) ∙ nothing-at g (end ∙ first)
 
 -- A search that begins at the lowest member of the set finds it at once.
 pub at-once : (m : ℕ) {y : ℕ} {t : Bool} → y ≡ lowest (bit m) → y < 64 → t ≡ bit m y → t ≡ true

@@ -33,6 +33,8 @@ enum Relation {
     PeopleWith,
     // Tasks of an order that nobody has in hand and no role holds.
     Free,
+    // Tasks that a person holds in one open order or another.
+    Held,
 }
 
 // Whether i is that to n.
@@ -49,6 +51,7 @@ fn is_related(book: &[u64], relation: Relation, n: u64, i: u64) -> bool
             n,
         ),
         Relation::Free => entries::is_hand(book, n, i) & is_free(book, n, i),
+        Relation::Held => is_held(book, n, i),
     }
 }
 
@@ -76,6 +79,20 @@ fn concerns(book: &[u64], sort: u64, n: u64, order: u64, task: u64) -> bool
         labels::PERSON => book::subject_in(cell) == n + 1,
         _ => order == n,
     }
+}
+
+// Whether the person holds the task in one open order or another.
+fn is_held(book: &[u64], person: u64, task: u64) -> bool
+    requires { ⌜ Full (now book) × (person < 64) × (task < 64) ⌝ }
+{
+    for order in 0..64u64 {
+        if entries::is_hand(book, order, task)
+            & concerns(book, labels::PERSON, person, order, task)
+        {
+            return true;
+        }
+    }
+    false
 }
 
 // Whether nobody has the task of the order in hand, and no role holds it.
@@ -188,12 +205,14 @@ pub fn hands(paper: &mut [u8], names: &[u8], book: &[u64], sort: u64, n: u64)
     }
 }
 
-// The tasks of the role that a person acts in, as long as they own it.
+// The tasks of the role that a person acts in, as long as they own it; without those that exclude one that they hold (SME), which they may
+// do in no order meanwhile.
 fn may_do(book: &[u64], n: u64) -> u64
     requires { ⌜ Full (now book) × (n < 64) ⌝ }
 {
     let owned = trade::below(book, book::row(book, book::ROLES_OF, n));
-    trade::owned_tasks(book, entries::of_person(book, n, 2).set & owned)
+    let tasks = trade::owned_tasks(book, entries::of_person(book, n, 2).set & owned);
+    tasks & !excluded(book, related(book, Relation::Held, n))
 }
 
 // What is told of a person: has roles, acts in, owns tasks, may do now, must not own.

@@ -82,13 +82,13 @@ fn of_gains(paper: &mut [u8], names: &[u8], n: u64, v: Facts) {
     );
 }
 
-// Numbers 33 and 34, of what the person holds.
+// Numbers 33 and 34, of what the person holds: by SME in any open order, by DME in the order itself.
 fn of_hands(paper: &mut [u8], names: &[u8], n: u64, v: Facts) {
     tell_nth(
         paper,
         names,
-        b"|conflict: person %pc already holds task %tx in order %ob, which excludes task %ty (SME); \
-          to resolve: give task %ta to someone else, or close the order and give task %tx to someone else\
+        b"|conflict: person %pc already holds task %tx in order %oz, which excludes task %ty in every open order (SME); \
+          to resolve: give task %ta to someone else, or close order %oz and, if it is opened anew, give task %tx there to someone else\
           |conflict: person %pc already holds task %tx in order %ob, which excludes task %ty within an order (DME); \
           to resolve: give task %ta to someone else, or close the order and give task %tx to someone else",
         n,

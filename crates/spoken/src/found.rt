@@ -12,7 +12,7 @@ fn broken(paper: &mut [u8], rule: u64) {
           |rule 6 is broken: a role is above itself\
           |rule 7 is broken: a role owns both tasks of an SME pair\
           |rule 8 is broken: a person owns both tasks of an SME pair\
-          |rule 9 is broken: in an open order one person holds two tasks that exclude each other\
+          |rule 9 is broken: one person holds two tasks that exclude each other, in any open orders (SME) or in one (DME)\
           |rule 10 is broken: in an open order bound tasks are in different hands or roles",
         rule,
     );

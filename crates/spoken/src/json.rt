@@ -90,7 +90,8 @@ fn request_names(paper: &mut [u8], names: &[u8], v: Facts) -> bool {
 // The names of the answer's things.
 fn answer_names(paper: &mut [u8], names: &[u8], number: u64, v: Facts, before: bool) {
     let one = name(paper, names, b'x', wanted::x_of(number), v.x, before);
-    name(paper, names, b'y', wanted::y_of(number), v.y, one);
+    let two = name(paper, names, b'y', wanted::y_of(number), v.y, one);
+    name(paper, names, b'z', wanted::z_of(number), v.z, two);
 }
 
 // The names of the request's things and the answer's.
@@ -107,9 +108,10 @@ fn numbers(paper: &mut [u8], answer: u64, v: Facts) {
     number(paper, b",\"b\":", v.b);
     number(paper, b",\"c\":", v.c);
     reply(paper, answer, v.x, v.y);
+    number(paper, b",\"z\":", v.z);
 }
 
-// The numbers of an answer.
+// The numbers that an answer and a finding both have.
 pub fn reply(paper: &mut [u8], answer: u64, x: u64, y: u64) {
     number(paper, b",\"number\":", answer);
     number(paper, b",\"x\":", x);

@@ -24,14 +24,20 @@ fn at(paper: &mut [u8], line: u64) {
     output::bytes(paper, b": ");
 }
 
-// The numbers of an answer, plainly.
+// The number, x and y, plainly: what an answer and a finding both have ..
 fn numbers(paper: &mut [u8], reply: answers::Reply) {
     output::number(paper, reply.number);
     output::byte(paper, b' ');
     output::number(paper, reply.x);
     output::byte(paper, b' ');
     output::number(paper, reply.y);
-    output::bytes(paper, b"  ");
+}
+
+// .. and with them z, which a finding has not.
+fn numbers_of_answer(paper: &mut [u8], reply: answers::Reply) {
+    numbers(paper, reply);
+    output::byte(paper, b' ');
+    output::number(paper, reply.z);
 }
 
 // The sentence of an answer.
@@ -56,7 +62,7 @@ fn whole_sentence(paper: &mut [u8], names: &[u8], number: u64, v: Facts, trial: 
     sentence_of(paper, names, number, v);
 }
 
-// The answer to the request on a line: its number, x and y, then what it means. A refusal has left the book as it was, so the book
+// The answer to the request on a line: its number, x, y and z, then what it means. A refusal has left the book as it was, so the book
 // tells how the person stood.
 pub fn answer(
     paper: &mut [u8],
@@ -75,6 +81,7 @@ pub fn answer(
         c: request.c,
         x: reply.x,
         y: reply.y,
+        z: reply.z,
         roles: standing::roles_of(book, request.c),
         active: standing::active_of(book, request.c),
     };
@@ -84,7 +91,8 @@ pub fn answer(
         json::closed(paper);
     } else {
         at(paper, line);
-        numbers(paper, reply);
+        numbers_of_answer(paper, reply);
+        output::bytes(paper, b"  ");
         whole_sentence(paper, names, reply.number, v, how.trial);
         output::byte(paper, b'\n');
     }
@@ -101,7 +109,7 @@ fn finding_json(paper: &mut [u8], reply: answers::Reply) {
 
 fn finding_plain(paper: &mut [u8], reply: answers::Reply) {
     numbers(paper, reply);
-    output::bytes(paper, b"audit: ");
+    output::bytes(paper, b"  audit: ");
     found::finding(paper, reply);
     output::byte(paper, b'\n');
 }

@@ -63,6 +63,7 @@ fn with(v: Facts, x: u64) -> Facts {
         c: v.c,
         x,
         y: v.y,
+        z: v.z,
         roles: v.roles,
         active: v.active,
     }

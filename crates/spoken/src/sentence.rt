@@ -1,5 +1,6 @@
 // Sentences with things in them. A mark is a %, the sort of the thing (t task, r role, p person, o order, m a mask of tasks, n a number
-// that is none of these), and whose it is: the request's kind (k) or its a, b, c, the answer's x, y, or the role that person c acts in (e).
+// that is none of these), and whose it is: the request's kind (k) or its a, b, c, the answer's x, y, z, or the role that person c acts in
+// (e).
 ghost use Prim.Native.Nat.{_<_};
 ghost use lib.ListN.{length};
 use crate::standing;
@@ -13,6 +14,7 @@ pub struct Facts {
     pub c: u64,
     pub x: u64,
     pub y: u64,
+    pub z: u64,
     pub roles: u64,
     pub active: u64,
 }
@@ -24,8 +26,9 @@ fn number_of(v: Facts, letter: u8) -> u64 {
         b'b' => v.b,
         b'c' => v.c,
         b'x' => v.x,
+        b'y' => v.y,
         b'e' => standing::acted_in(v.active),
-        _ => v.y,
+        _ => v.z,
     }
 }
 

@@ -14,10 +14,18 @@ pub fn x_of(number: u64) -> u64 {
     }
 }
 
-// .. and of its y.
+// .. of its y ..
 pub fn y_of(number: u64) -> u64 {
     match number {
         27..=28 | 31..=34 => labels::TASK,
+        _ => NO_SORT,
+    }
+}
+
+// .. and of its z.
+pub fn z_of(number: u64) -> u64 {
+    match number {
+        33..=34 => labels::ORDER,
         _ => NO_SORT,
     }
 }

@@ -1,16 +1,9 @@
 -- How the code's tests show those of the rules.
 use mathlib.Core.Path.{_≡_, sym, ap, ap₂, _∙_}
-use mathlib.Core.Bool.{Bool, true, false, not}
-use Prim.Native.Nat.{ℕ, _≤_, _<_}
-use native.Mathlib.Omega.{arith}
-use native.Mathlib.Decide.{decLt}
-use lib.Dec.{ltb, leb}
-use borrow.Author.Tests.{le-ltb, le-leb, lt-leb}
+use mathlib.Core.Bool.{Bool, true, false}
+use Prim.Native.Nat.{ℕ}
 use Rattle.sets.specs.Mask.{bit}
-use Rattle.sets.specs.Search.{lowest}
-use Rattle.sets.proofs.SearchLaws.{all-in, all-fails, lowest-passes, none-passes}
-use Rattle.rules.specs.Numbers.{clash}
-use Rattle.rules.specs.Audit.{implies, twoSided, pairFree}
+use Rattle.rules.specs.Audit.{implies, twoSided}
 
 -- Rule 2 asks nothing of a task that is not in u's row ..
 pub not-asked : (rows : ℕ → ℕ) (u v : ℕ) → bit (rows u) v ≡ false → twoSided rows u v ≡ true
@@ -19,16 +12,3 @@ not-asked rows u v e = ap (λ (t : Bool). implies t (bit (rows v) u)) e
 -- .. and of one that is, what the test of the pair turned round says.
 pub two-sided-seen : (rows : ℕ → ℕ) (u v : ℕ) {back t : Bool} → bit (rows u) v ≡ true → back ≡ bit (rows v) u → back ≡ t → twoSided rows u v ≡ t
 two-sided-seen rows u v there e f = ap₂ implies there (sym e ∙ f)
-
--- A set holds no pair exactly where the search for a member that clashes with the set itself ends at 64.
-pub pair-free-seen : (rows : ℕ → ℕ) (m : ℕ) {x : ℕ} → x ≡ lowest (clash rows m m) → leb 64 x ≡ pairFree rows m
-unfolding pairFree
-pair-free-seen rows m {x} e = go (decLt x 64)
-  where
-    go : Dec (x < 64) → leb 64 x ≡ pairFree rows m
-    go (yes h) =
-        let q : lowest (clash rows m m) < 64 = omega arith in
-        lt-leb 64 x h ∙ sym (all-fails _ 64 q (ap not (lowest-passes 64 0 (clash rows m m) q)))
-    go (no h) =
-        let q : 64 ≤ x = omega arith in
-        le-leb 64 x q ∙ sym (all-in 64 _ (λ u l. ap not (none-passes (clash rows m m) (ap (λ (k : ℕ). ltb k 64) (sym e) ∙ le-ltb x 64 q) u l)))

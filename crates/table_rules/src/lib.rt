@@ -69,10 +69,10 @@ pub fn is_acyclic(book: &[u64], r: u64) -> bool
 }
 
 // Rules 7 and 8: an owner owns no task that is SME to one of its own.
-pub fn is_pair_free(book: &[u64], owner: owners::Owner, o: u64) -> bool
+pub fn is_owner_free(book: &[u64], owner: owners::Owner, o: u64) -> bool
     requires { ⌜ Full (now book) × (o < 64) ⌝ }
     ensures { λ r. ⌜ r ≡ ownerFree (tables (now (book .entry))) (startOf (tables (now (book .entry))) owner) o ⌝ }
 {
     let owned = trade::owned_tasks(book, owners::start_of(book, owner, o));
-    owners::clash_of(book, owned, owned) >= 64
+    search::is_pair_free(book, book::SME, owned)
 }

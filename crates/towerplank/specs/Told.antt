@@ -13,16 +13,16 @@ use Rattle.answers.specs.declared.Reply.{Reply}
 use Rattle.answers.specs.Replies.{replyOf}
 use Rattle.desk.specs.Guarantee.{Stored}
 
--- the four words that a controller reads: number, x, y, and one that is 0 today
+-- the four words that a controller reads: number, x, y and z
 abbrev pub listed : Reply → List ℕ
-listed r = r .number ∷ r .x ∷ r .y ∷ 0 ∷ []
+listed r = r .number ∷ r .x ∷ r .y ∷ r .z ∷ []
 
 abbrev pub fourWords : Said → List ℕ
 fourWords s = listed (replyOf s)
 
 -- the book was `before` and is `after`; `four` was told to q
 pub record Told (before after : List ℕ) (q : Request) (four : List ℕ) : Type 0 where
-  -- the number, x and y are those of the documents
+  -- the number, x, y and z are those of the documents
   pub told : four ≡ fourWords (answer (length before) (words before) q)
   pub stored : Stored before after q
 

@@ -9,10 +9,10 @@ ghost use Rattle.towerplank.specs.Told.{listed, Told, ToldAudit};
 fn put(answer: &mut [u64; 4], reply: Reply)
     ensures { λ _. ⌜ now (answer .exit) ≡ listed reply ⌝ }
 {
-    *answer = [reply.number, reply.x, reply.y, 0];
+    *answer = [reply.number, reply.x, reply.y, reply.z];
 }
 
-// One request on a lent book: the answer's number, x and y and a word that is 0, and the change in place where the number is 0.
+// One request on a lent book: the answer's number, x, y and z, and the change in place where the number is 0.
 #[no_mangle]
 pub extern "C" fn towerplank_request(
     book: &mut [u64],

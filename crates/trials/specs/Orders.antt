@@ -10,6 +10,12 @@ heldSme =
     on ((0, 3) ∷ (1, 3) ∷ (2, 1) ∷ row SME 0 2 ∷ row SME 1 1 ∷ row tasksOf 0 1 ∷ row tasksOf 1 2 ∷ row rolesOf 0 2 ∷ row active 0 2
     ∷ row orders 0 3 ∷ cell 0 0 129 ∷ []) 13 1 0 0
 
+-- 33 over two orders: task 1 in order 1 to subject 0, who holds task 0 in order 0, which is SME to it
+abbrev pub heldElsewhere : Trial
+heldElsewhere =
+    on ((0, 3) ∷ (1, 3) ∷ (2, 1) ∷ row SME 0 2 ∷ row SME 1 1 ∷ row tasksOf 0 1 ∷ row tasksOf 1 2 ∷ row rolesOf 0 2 ∷ row active 0 2
+    ∷ row orders 0 1 ∷ row orders 1 2 ∷ cell 0 0 129 ∷ []) 13 1 1 0
+
 -- 34: task 1 to subject 0, who holds task 0; task 2, bound to task 1 by SB, is DME to it
 abbrev pub heldDme : Trial
 heldDme =
@@ -21,6 +27,12 @@ abbrev pub outsideOrder : Trial
 outsideOrder =
     on ((0, 7) ∷ (1, 1) ∷ (2, 1) ∷ row DME 0 4 ∷ row DME 2 1 ∷ row SB 1 4 ∷ row SB 2 2 ∷ row tasksOf 0 7 ∷ row rolesOf 0 1 ∷ row active 0 1
     ∷ row orders 0 3 ∷ cell 0 0 129 ∷ []) 13 1 0 0
+
+-- accepted: task 1 in order 1 to subject 0, who holds task 0 in order 0, which is DME to it
+abbrev pub dmeElsewhere : Trial
+dmeElsewhere =
+    on ((0, 3) ∷ (1, 1) ∷ (2, 1) ∷ row DME 0 2 ∷ row DME 1 1 ∷ row tasksOf 0 3 ∷ row rolesOf 0 1 ∷ row active 0 1
+    ∷ row orders 0 1 ∷ row orders 1 2 ∷ cell 0 0 129 ∷ []) 13 1 1 0
 
 -- accepted: task 1 to subject 0, where subject 1 holds task 0, which is DME to it
 abbrev pub othersHand : Trial
@@ -43,4 +55,4 @@ abbrev pub closedOrder : Trial
 closedOrder = on ((0, 1) ∷ (1, 1) ∷ (2, 1) ∷ row orders 0 1 ∷ cell 0 0 129 ∷ []) 14 0 0 0
 
 abbrev pub hands : List Trial
-hands = heldSme ∷ heldDme ∷ outsideOrder ∷ othersHand ∷ boundHands ∷ openedOrder ∷ closedOrder ∷ []
+hands = heldSme ∷ heldElsewhere ∷ heldDme ∷ outsideOrder ∷ dmeElsewhere ∷ othersHand ∷ boundHands ∷ openedOrder ∷ closedOrder ∷ []

@@ -156,14 +156,14 @@ say-xy-requires-4 c κs = search needs
 enum-known-answer-13 : tie.Need-enum-known-answer-13
 enum-known-answer-13 c = search needs
 
-say-xy-requires-5 : tie.Need-say-xy-requires-5
-say-xy-requires-5 c κs = search needs
+say-xyz-requires : tie.Need-say-xyz-requires
+say-xyz-requires c κs = search needs
 
 enum-known-answer-14 : tie.Need-enum-known-answer-14
 enum-known-answer-14 c = search needs
 
-say-xy-requires-6 : tie.Need-say-xy-requires-6
-say-xy-requires-6 c κs = search needs
+say-xyz-requires-2 : tie.Need-say-xyz-requires-2
+say-xyz-requires-2 c κs = search needs
 
 returns : tie.Need-returns
 returns c = rw (c .before .enum-told .given .1) (c .say .ensures)
@@ -241,10 +241,10 @@ returns-25 : tie.Need-returns-25
 returns-25 c = rw (c .before .before .answer12 .given .1) (c .say-xy4 .ensures)
 
 returns-26 : tie.Need-returns-26
-returns-26 c = rw (c .before .before .answer13 .given .1) (c .say-xy5 .ensures)
+returns-26 c = rw (c .before .before .answer13 .given .1) (c .say-xyz .ensures)
 
 returns-27 : tie.Need-returns-27
-returns-27 c = rw (c .before .before .answer14 .given .1) (c .say-xy6 .ensures)
+returns-27 c = rw (c .before .before .answer14 .given .1) (c .say-xyz2 .ensures)
 
 pub told-spec : {M : Type 1} → statement M
 told-spec =
@@ -301,9 +301,9 @@ told-spec =
     enum-known-answer-12
     say-xy-requires-4
     enum-known-answer-13
-    say-xy-requires-5
+    say-xyz-requires
     enum-known-answer-14
-    say-xy-requires-6
+    say-xyz-requires-2
     returns
     returns-2
     returns-3

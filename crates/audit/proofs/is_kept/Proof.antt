@@ -49,7 +49,7 @@ returns c =
     let sized = read-sized (words (s .book .now)) (λ i h. (c .before .before .before .before .before .before .shared-slice-known .given i) .fits) in
     let told = rw (c .before .is-kept-at .ensures, c .before .before .lowest .ensures) at (not-true (c .before .is-kept-at .result) (c .if1 .taken)) in
     sym (seen-fails (keptAt d (s .rule)) (omega arith) (l .inv .0) told)
-    ∙ tells-kept d sized (s .rule) (omega arith) (keeps-exactly d sized (s .rule) (omega arith))
+    ∙ tells-kept d sized (search needs) (s .rule) (omega arith) (keeps-exactly d sized (search needs) (s .rule) (omega arith))
 
 rest-requires : tie.Need-rest-requires Inv-loop μ-loop
 rest-requires c κs = omega arith
@@ -76,7 +76,7 @@ returns-2 c =
     let d = tables (s .book .now) in
     let sized = read-sized (words (s .book .now)) (λ i h. (c .before .before .before .shared-slice-known .given i) .fits) in
     sym (seen-all (keptAt d (s .rule)) (rw (c .loop-test .left) at (c .before .loop .inv .1)))
-    ∙ tells-kept d sized (s .rule) (omega arith) (keeps-exactly d sized (s .rule) (omega arith))
+    ∙ tells-kept d sized (search needs) (s .rule) (omega arith) (keeps-exactly d sized (search needs) (s .rule) (omega arith))
 
 pub is-kept-spec : {M : Type 1} → statement M
 is-kept-spec =

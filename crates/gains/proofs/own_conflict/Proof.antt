@@ -15,21 +15,21 @@ owned-tasks-requires c κs = search needs
 gain-of-requires : tie.Need-gain-of-requires
 gain-of-requires c κs = search needs
 
-clash-of-requires : tie.Need-clash-of-requires
-clash-of-requires c κs = search needs
+lowest-meeting-requires : tie.Need-lowest-meeting-requires
+lowest-meeting-requires c κs = search needs
 
 returns : tie.Need-returns
 returns c =
     let s = c .before .before .before .before .before .before .args in
     own-told (tables (s .book .now)) (s .a) (s .b) (c .before .before .before .before .row .ensures)
-    (c .before .before .before .owned-tasks .ensures) (c .before .before .gain-of .ensures) (c .before .clash-of .ensures) (omega arith)
+    (c .before .before .before .owned-tasks .ensures) (c .before .before .gain-of .ensures) (c .before .lowest-meeting .ensures) (omega arith)
     (c .if1 .taken)
 
 returns-2 : tie.Need-returns-2
 returns-2 c =
     let s = c .before .before .before .before .before .before .args in
     own-none (tables (s .book .now)) (s .a) (s .b) (c .before .before .before .before .row .ensures)
-    (c .before .before .before .owned-tasks .ensures) (c .before .before .gain-of .ensures) (c .before .clash-of .ensures) (c .if1 .left)
+    (c .before .before .before .owned-tasks .ensures) (c .before .before .gain-of .ensures) (c .before .lowest-meeting .ensures) (c .if1 .left)
 
 pub own-conflict-spec : {M : Type 1} → statement M
 own-conflict-spec =
@@ -38,6 +38,6 @@ own-conflict-spec =
     row-requires
     owned-tasks-requires
     gain-of-requires
-    clash-of-requires
+    lowest-meeting-requires
     returns
     returns-2)

@@ -50,7 +50,7 @@ returns c =
     let sized = read-sized (words (s .book .now)) (λ i h. (c .before .before .before .before .before .before .before .shared-slice-known .given i) .fits) in
     let e = sym (c .before .is-bound-together .ensures) ∙ not-true _ (c .if1 .taken) in
     sym (seen-fails (boundTogether d) (omega arith) (l .inv .0) (rw (c .before .before .lowest .ensures) at e))
-    ∙ tells-kept d sized 10 (omega arith) (together-exactly d sized (broken-unless d sized 2 (omega arith) .means (search needs)))
+    ∙ tells-kept d sized (search needs) 10 (omega arith) (together-exactly d sized (broken-unless d sized (search needs) 2 (omega arith) .means (search needs)))
 
 rest-requires : tie.Need-rest-requires Inv-loop μ-loop
 rest-requires c κs = omega arith
@@ -77,7 +77,7 @@ returns-2 c =
     let d = tables (s .book .now) in
     let sized = read-sized (words (s .book .now)) (λ i h. (c .before .before .before .before .shared-slice-known .given i) .fits) in
     sym (seen-all (boundTogether d) (rw (c .loop-test .left) at (c .before .loop .inv .1)))
-    ∙ tells-kept d sized 10 (omega arith) (together-exactly d sized (broken-unless d sized 2 (omega arith) .means (search needs)))
+    ∙ tells-kept d sized (search needs) 10 (omega arith) (together-exactly d sized (broken-unless d sized (search needs) 2 (omega arith) .means (search needs)))
 
 pub are-together-spec : {M : Type 1} → statement M
 are-together-spec =

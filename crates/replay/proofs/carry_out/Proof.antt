@@ -36,8 +36,8 @@ store-requires c κs = search needs
 enum-known-reply : tie.Need-enum-known-reply
 enum-known-reply c = search needs
 
-tell-requires : tie.Need-tell-requires
-tell-requires c κs = search needs
+answer-requires : tie.Need-answer-requires
+answer-requires c κs = search needs
 
 changes-requires : tie.Need-changes-requires
 changes-requires c κs = search needs
@@ -48,8 +48,8 @@ byte-requires c κs = search needs
 enum-known-reply-2 : tie.Need-enum-known-reply-2
 enum-known-reply-2 c = search needs
 
-tell-requires-2 : tie.Need-tell-requires-2
-tell-requires-2 c κs = search needs
+finding-requires : tie.Need-finding-requires
+finding-requires c κs = search needs
 
 byte-requires-2 : tie.Need-byte-requires-2
 byte-requires-2 c κs = search needs
@@ -128,11 +128,11 @@ carry-out-spec =
     enum-known-i
     store-requires
     enum-known-reply
-    tell-requires
+    answer-requires
     changes-requires
     byte-requires
     enum-known-reply-2
-    tell-requires-2
+    finding-requires
     byte-requires-2
     enum-told
     complain-requires

@@ -1,10 +1,10 @@
--- What each subject is noted with, joined with what it holds of the tasks left, is what it holds.
-use mathlib.Core.Path.{_≡_, refl, ap, ap₂, _∙_}
+-- What each subject is noted with, joined with what it holds of the tasks left, is what it was noted with and what it holds.
+use mathlib.Core.Path.{_≡_, ap, _∙_}
 use Prim.Native.Nat.{ℕ, suc, _^_, _<_}
 use native.Mathlib.Omega.{arith}
 use lib.Dec.{eqb}
 use lib.Bits.{bitOr}
-use lib.ListN.{length, getD-replicate}
+use lib.ListN.{length}
 use Rattle.sets.specs.Mask.{only, joined}
 use Rattle.sets.proofs.MemberLaws.{lowest-lt, rest-lt, joined-on, joined-done}
 use Rattle.rules.specs.Book.{Book, subjectIn}
@@ -12,10 +12,10 @@ use Rattle.rules.specs.Numbers.{heldBy}
 use Rattle.rules.proofs.BookLaws.{read-sized}
 use Rattle.book.specs.Slice.{words, tables}
 use Rattle.hand_rules.proofs.HandLaws.{noted-joins}
-use Rattle.hand_rules.proofs.ApartLaws.{hand-le}
+use Rattle.rules.proofs.HeldLaws.{hand-le}
 use borrow.Author.Needs.{needs}
-use Rattle.hand_rules.proofs.held_in.Statement.{statement}
-use Rattle.hand_rules.proofs.held_in.Tie as tie
+use Rattle.hand_rules.proofs.note_order.Statement.{statement}
+use Rattle.hand_rules.proofs.note_order.Tie as tie
 
 -- task t alone, where its cell in order p has subject k
 abbrev mine : Book → ℕ → ℕ → ℕ → ℕ
@@ -24,7 +24,7 @@ mine d p k t = only (eqb (subjectIn (d .cell p t)) (suc k)) (2 ^ t)
 abbrev Inv-loop : tie.InvT-loop
 Inv-loop book order held₀ left₀ held left =
     (left < 2 ^ 64) × (length held ≡ 64)
-    × ((k : ℕ) → k < 64 → bitOr (words held k) (joined 64 (mine (tables book) order k) left) ≡ heldBy (tables book) order k)
+    × ((k : ℕ) → k < 64 → bitOr (words held k) (joined 64 (mine (tables book) order k) left) ≡ bitOr (words held₀ k) (heldBy (tables book) order k))
 
 abbrev μ-loop : tie.MeasureT-loop
 μ-loop book order held₀ left₀ held left = left
@@ -35,8 +35,12 @@ row-requires c κs = search needs
 loop-holds : tie.Need-loop-holds Inv-loop μ-loop
 unfolding heldBy
 loop-holds c =
-    let s = c .before .before .args in
-    (search needs, refl, λ k h. ap₂ bitOr (getD-replicate 64 k 0 0 h) (ap (joined 64 (mine (tables (s .book .now)) (s .order) k)) (c .row .ensures)))
+    let s = c .before .before .args in (
+      search needs,
+      search needs,
+      λ k h.
+          ap (λ (m : ℕ). bitOr (words (s .held .now) k) (joined 64 (mine (tables (s .book .now)) (s .order) k) m)) (c .row .ensures),
+    )
 
 lowest-requires : tie.Need-lowest-requires Inv-loop μ-loop
 lowest-requires c κs = search needs
@@ -89,10 +93,10 @@ returns c =
     let s = c .before .before .before .before .args in
     let l = c .before .loop in
     let done = rw (c .loop-test .left) at (l .inv .2) in
-    λ k h. joined-done (mine (tables (s .book .now)) (s .order) k) (words (l .held) k) (done k h)
+    (l .inv .1, λ k h. joined-done (mine (tables (s .book .now)) (s .order) k) (words (l .held) k) (done k h))
 
-pub held-in-spec : {M : Type 1} → statement M
-held-in-spec =
+pub note-order-spec : {M : Type 1} → statement M
+note-order-spec =
     tie.close
     (tie.spec
     Inv-loop

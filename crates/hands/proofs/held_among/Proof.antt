@@ -1,30 +1,29 @@
--- What is held of the tasks seen, with what is held of those left, is all that is held.
+-- What is held of the tasks seen, with what is held of those left, is all that is held among those asked for.
 use mathlib.Core.Path.{_≡_, refl, ap, _∙_}
-use Prim.Native.Nat.{_^_, _<_}
+use Prim.Native.Nat.{ℕ, _^_, _<_}
 use native.Mathlib.Omega.{arith}
-use lib.Bits.{bitOr}
+use lib.Bits.{bitAnd, bitOr, and-lt}
 use Rattle.sets.specs.Mask.{joined}
 use Rattle.sets.proofs.MemberLaws.{lowest-lt, rest-lt, joined-on, joined-done}
-use Rattle.rules.specs.Numbers.{heldBy}
 use Rattle.book.specs.Slice.{tables}
-use Rattle.hands.specs.Held.{heldRow}
+use Rattle.hands.specs.Held.{heldRow, heldAmong}
 use borrow.Author.Needs.{needs}
-use Rattle.hands.proofs.held_by.Statement.{statement}
-use Rattle.hands.proofs.held_by.Tie as tie
+use Rattle.hands.proofs.held_among.Statement.{statement}
+use Rattle.hands.proofs.held_among.Tie as tie
 
 abbrev Inv-loop : tie.InvT-loop
-Inv-loop book order subject held₀ left₀ held left =
+Inv-loop book order subject those held₀ left₀ held left =
     let rows = heldRow (tables book) order subject in
     (left < 2 ^ 64) × (bitOr held (joined 64 rows left) ≡ joined 64 rows left₀)
 
 abbrev μ-loop : tie.MeasureT-loop
-μ-loop book order subject held₀ left₀ held left = left
+μ-loop book order subject those held₀ left₀ held left = left
 
 row-requires : tie.Need-row-requires Inv-loop μ-loop
 row-requires c κs = search needs
 
 loop-holds : tie.Need-loop-holds Inv-loop μ-loop
-loop-holds c = (search needs, refl)
+loop-holds c = (and-lt 64 (c .row .result) (c .before .before .args .those) (search needs) (search needs), refl)
 
 lowest-requires : tie.Need-lowest-requires Inv-loop μ-loop
 lowest-requires c κs = search needs
@@ -53,15 +52,15 @@ loop-again c =
     )
 
 returns : tie.Need-returns Inv-loop μ-loop
-unfolding heldBy
+unfolding heldAmong
 returns c =
     let s = c .before .before .before .before .args in
     let l = c .before .loop in
     let rows = heldRow (tables (s .book .now)) (s .order) (s .subject) in
-    joined-done rows (l .held) (rw (c .loop-test .left) at (l .inv .1)) ∙ ap (joined 64 rows) (c .before .before .row .ensures)
+    joined-done rows (l .held) (rw (c .loop-test .left) at (l .inv .1)) ∙ ap (λ (m : ℕ). joined 64 rows (bitAnd m (s .those))) (c .before .before .row .ensures)
 
-pub held-by-spec : {M : Type 1} → statement M
-held-by-spec =
+pub held-among-spec : {M : Type 1} → statement M
+held-among-spec =
     tie.close
     (tie.spec
     Inv-loop
