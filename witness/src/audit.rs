@@ -1,12 +1,12 @@
-//! "The audit": ten rules, each a plain question of the book; the lowest broken one is told.
+//! "The audit", with rule 9 of M-104: ten rules, each a plain question of the book; the lowest broken one is told.
 
 use crate::book::{lowest_bad_word, Book, Table, WORDS};
 use crate::set::Set;
 use crate::trade::{reached, role_group, subject_group, tasks_owned_by_role, tasks_owned_by_subject};
-use crate::{Answer, ACCEPTED};
+use crate::{Finding, SOUND};
 
 /// It only reads: 1 or 2 as for a request, else 40 + n for the lowest broken rule n, else 0.
-pub fn audit(words: &[u64]) -> Answer {
+pub fn audit(words: &[u64]) -> Finding {
     if words.len() != WORDS {
         return (1, 0, 0);
     }
@@ -16,7 +16,7 @@ pub fn audit(words: &[u64]) -> Answer {
     let book = Book::read(words);
     match (1..=10).find(|&rule| !rule_holds(&book, rule)) {
         Some(rule) => (40 + rule, 0, 0),
-        None => ACCEPTED,
+        None => SOUND,
     }
 }
 
@@ -50,13 +50,16 @@ fn holds_no_pair(tasks: &Set, table: &Table) -> bool {
     tasks.members().all(|u| table[u].and(tasks).is_empty())
 }
 
-/// Rule 9: u and v of one order, v in u's SME or DME row (u = v counts), not with the same S above 0.
+/// Rule 9, of u in open order p and v in open order q: where v is in u's DME row and q is p, or v is in u's SME row and
+/// q is any, their cells have not the same S above 0 (u = v counts, and for SME also p = q).
 fn excluding_tasks_have_two_subjects(book: &Book) -> bool {
-    (0..64).all(|p| {
-        book.orders[p].members().all(|u| {
-            let excluded = book.sme[u].or(&book.dme[u]).and(&book.orders[p]);
-            let subject = book.cells[p][u].subject;
-            subject.is_none() || excluded.members().all(|v| book.cells[p][v].subject != subject)
+    let open = || (0..64).filter(|&p| book.is_open(p));
+    open().all(|p| {
+        book.orders[p].members().filter(|&u| book.cells[p][u].subject.is_some()).all(|u| {
+            let same_hand = |q: usize, v: usize| book.cells[q][v].subject == book.cells[p][u].subject;
+            let dme_in_this_order = book.dme[u].members().any(|v| same_hand(p, v));
+            let sme_in_any_order = book.sme[u].members().any(|v| open().any(|q| same_hand(q, v)));
+            !dme_in_this_order && !sme_in_any_order
         })
     })
 }

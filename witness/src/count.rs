@@ -4,7 +4,7 @@ use std::collections::BTreeMap;
 use std::io::{BufRead, Result, Write};
 
 use crate::request::LAST_KIND;
-use crate::stream::{each_command, Command, Desk};
+use crate::stream::{each_command, Command, Desk, Told};
 
 /// What is no kind is counted together under this number.
 const OTHER: u64 = 0;
@@ -65,11 +65,11 @@ impl Tally {
         let mut tally = Tally::default();
         let mut desk = Desk::new();
         each_command(input, |command| {
-            let answer = desk.carry_out(command)?;
-            match (command, answer) {
-                (Command::Request(kind, ..), Some((number, x, _))) => tally.add_request(kind, number, x),
-                (_, Some((number, ..))) => *tally.audits.entry(number).or_default() += 1,
-                (_, None) => {}
+            let told = desk.carry_out(command)?;
+            match (command, told) {
+                (Command::Request(kind, ..), Some(Told::Answer((number, x, ..)))) => tally.add_request(kind, number, x),
+                (_, Some(Told::Finding((number, ..)))) => *tally.audits.entry(number).or_default() += 1,
+                _ => {}
             }
             Ok(())
         })?;

@@ -1,5 +1,5 @@
-//! "Requests" and "The numbers that come back", with the kinds of M-100 and kind 10 of M-101: refusals 1 to 11, the
-//! conflicts, the change.
+//! "Requests" and "The numbers that come back", with the kinds of M-100, kind 10 of M-101 and number 33 of M-104:
+//! refusals 1 to 11, the conflicts, the change.
 
 use crate::book::{lowest_bad_word, Book, Cell, Table, EMPTY_CELL, WORDS};
 use crate::set::Set;
@@ -33,29 +33,29 @@ pub fn blind(words: &[u64], kind: u64, a: u64, b: u64, c: u64) -> Vec<u64> {
 /// The lowest applicable number of 1 to 11, if there is one.
 pub fn refusal(words: &[u64], kind: u64, a: u64, b: u64, c: u64) -> Option<Answer> {
     if words.len() != WORDS {
-        return Some((1, 0, 0));
+        return Some((1, 0, 0, 0));
     }
     if let Some(index) = lowest_bad_word(words) {
-        return Some((2, index as u64, 0));
+        return Some((2, index as u64, 0, 0));
     }
     if !(1..=LAST_KIND).contains(&kind) {
-        return Some((3, 0, 0));
+        return Some((3, 0, 0, 0));
     }
     let book = Book::read(words);
     if let Some(place) = argument_at_fault(&book, kind, a, b, c) {
-        return Some((4, place, 0));
+        return Some((4, place, 0, 0));
     }
     // From here on every argument in use is a number 0 to 63, but for the mask of kind 12.
     let (a, b, c) = (a as usize, b as usize, c as usize);
     if matches!(kind, 1..=10 | 12) && is_there(&book, kind, a, b) {
-        return Some((5, 0, 0));
+        return Some((5, 0, 0, 0));
     }
     if matches!(kind, 15..=21) && !is_there(&book, kind, a, b) {
-        return Some((6, 0, 0));
+        return Some((6, 0, 0, 0));
     }
     match kind {
-        4..=7 | 18..=21 => (0..64).find(|&p| book.is_open(p)).map(|p| (7, p as u64, 0)),
-        11 if !roles_owned_by_subject(&book, b).has(a) => Some((8, 0, 0)),
+        4..=7 | 18..=21 => (0..64).find(|&p| book.is_open(p)).map(|p| (7, p as u64, 0, 0)),
+        11 if !roles_owned_by_subject(&book, b).has(a) => Some((8, 0, 0, 0)),
         13 => allocation_refusal(&book, a, b, c),
         _ => None,
     }
@@ -118,19 +118,19 @@ fn pair_table_of(kind: u64) -> usize {
 fn allocation_refusal(book: &Book, a: usize, b: usize, c: usize) -> Option<Answer> {
     let role = match book.active[c] {
         Some(role) if roles_owned_by_subject(book, c).has(role) => role,
-        _ => return Some((8, 0, 0)),
+        _ => return Some((8, 0, 0, 0)),
     };
     let cell = book.cells[b][a];
     if let Some(subject) = cell.subject {
-        return Some((9, subject as u64, 0));
+        return Some((9, subject as u64, 0, 0));
     }
     if let Some(other) = cell.role.filter(|&other| other != role) {
-        return Some((10, other as u64, 0));
+        return Some((10, other as u64, 0, 0));
     }
     let owned = tasks_owned_by_role(book, role);
     let needed = role_group(book, a).and(&book.orders[b]);
     let lacking = needed.members().find(|&t| !owned.has(t));
-    lacking.map(|t| (11, t as u64, 0))
+    lacking.map(|t| (11, t as u64, 0, 0))
 }
 
 /// "Conflicts by kind": the first of the kind's list that is met, where no refusal applies.
@@ -147,13 +147,15 @@ fn conflict(book: &Book, kind: u64, a: u64, b: u64, c: u64) -> Option<Answer> {
         13 => &[33, 34],
         _ => &[],
     };
+    let without_z = |(x, y): (usize, usize)| (x, y, 0);
     list.iter().find_map(|&number| {
         let told = match number {
-            31 | 32 => gaining_conflict(book, number, kind, a, b),
-            33 | 34 => holding_conflict(book, number, a, b, c),
-            _ => pair_conflict(book, number, a, b),
+            31 | 32 => gaining_conflict(book, number, kind, a, b).map(without_z),
+            33 => static_conflict(book, a, b, c),
+            34 => dynamic_conflict(book, a, b, c),
+            _ => pair_conflict(book, number, a, b).map(without_z),
         };
-        told.map(|(x, y)| (number, x as u64, y as u64))
+        told.map(|(x, y, z)| (number, x as u64, y as u64, z as u64))
     })
 }
 
@@ -203,14 +205,31 @@ fn gaining_conflict(book: &Book, number: u64, kind: u64, a: usize, b: usize) -> 
     })
 }
 
-/// Conflicts 33 and 34: c already holds x in order b, with y of a's subject group, in the order, in x's row.
-fn holding_conflict(book: &Book, number: u64, a: usize, b: usize, c: usize) -> Option<(usize, usize)> {
+/// Conflict 33: in any open order z, b among them, c holds x, with y of what c would get in x's SME row. Told is the
+/// lowest order z, then the lowest x that c holds there and has a partner, then its lowest partner y.
+fn static_conflict(book: &Book, a: usize, b: usize, c: usize) -> Option<(usize, usize, usize)> {
+    let mut open_orders = (0..64).filter(|&z| book.is_open(z));
+    let found_in = |z: usize| lowest_pair(&held(book, z, c), &book.sme, &would_get(book, a, b)).map(|(x, y)| (x, y, z));
+    open_orders.find_map(found_in)
+}
+
+/// Conflict 34: the same with DME, and in order b alone, which is z.
+fn dynamic_conflict(book: &Book, a: usize, b: usize, c: usize) -> Option<(usize, usize, usize)> {
+    lowest_pair(&held(book, b, c), &book.dme, &would_get(book, a, b)).map(|(x, y)| (x, y, b))
+}
+
+/// What subject c holds in an order: the tasks whose cells have c.
+fn held(book: &Book, order: usize, c: usize) -> Set {
     let mut held = Set::empty();
-    for t in book.orders[b].members().filter(|&t| book.cells[b][t].subject == Some(c)) {
+    for t in book.orders[order].members().filter(|&t| book.cells[order][t].subject == Some(c)) {
         held.put(t);
     }
-    let table = if number == 33 { &book.sme } else { &book.dme };
-    lowest_pair(&held, table, &subject_group(book, a).and(&book.orders[b]))
+    held
+}
+
+/// What a subject would get with task a in order b: the subject group of a, cut to that order, whichever order x is in.
+fn would_get(book: &Book, a: usize, b: usize) -> Set {
+    subject_group(book, a).and(&book.orders[b])
 }
 
 /// The change of each kind, made from the book before it.

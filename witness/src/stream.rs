@@ -4,7 +4,7 @@ use std::io::{BufRead, Error, ErrorKind, Result, Write};
 
 use crate::audit::audit;
 use crate::request::request;
-use crate::Answer;
+use crate::{Answer, Finding};
 
 /// No book in a stream is longer than this.
 pub const LONGEST: u64 = 4700;
@@ -53,6 +53,15 @@ pub fn each_command(input: impl BufRead, mut step: impl FnMut(Command) -> Result
     Ok(())
 }
 
+/// What comes back for a command that asks something.
+#[derive(Clone, Copy, PartialEq, Eq, Debug)]
+pub enum Told {
+    /// Of a request.
+    Answer(Answer),
+    /// Of an audit.
+    Finding(Finding),
+}
+
 /// The book that the commands of a stream work on.
 pub struct Desk {
     pub words: Vec<u64>,
@@ -64,16 +73,18 @@ impl Desk {
         Desk { words: Vec::new() }
     }
 
-    /// Carries out one command and gives its answer, where it has one.
-    pub fn carry_out(&mut self, command: Command) -> Result<Option<Answer>> {
+    /// Carries out one command and tells what comes back, where something does.
+    pub fn carry_out(&mut self, command: Command) -> Result<Option<Told>> {
         match command {
             Command::New(length) => self.words = vec![0; length],
             Command::Word(index, value) => {
                 let outside = || Error::new(ErrorKind::InvalidData, format!("the book has no word {index}"));
                 *self.words.get_mut(index).ok_or_else(outside)? = value;
             }
-            Command::Request(kind, a, b, c) => return Ok(Some(request(&mut self.words, kind, a, b, c))),
-            Command::Audit => return Ok(Some(audit(&self.words))),
+            Command::Request(kind, a, b, c) => {
+                return Ok(Some(Told::Answer(request(&mut self.words, kind, a, b, c))));
+            }
+            Command::Audit => return Ok(Some(Told::Finding(audit(&self.words)))),
         }
         Ok(None)
     }
@@ -93,14 +104,16 @@ pub fn answers(input: impl BufRead, output: &mut impl Write) -> Result<()> {
             Command::Request(..) => desk.words.clone(),
             _ => Vec::new(),
         };
-        if let Some((number, x, y)) = desk.carry_out(command)? {
-            let name = if command == Command::Audit { 'a' } else { 'r' };
-            write!(output, "{name} {number} {x} {y}")?;
-            for (index, _) in before.iter().enumerate().filter(|&(index, old)| desk.words[index] != *old) {
-                write!(output, " {index} {}", desk.words[index])?;
+        match desk.carry_out(command)? {
+            Some(Told::Answer((number, x, y, z))) => {
+                write!(output, "r {number} {x} {y} {z}")?;
+                for (index, _) in before.iter().enumerate().filter(|&(index, old)| desk.words[index] != *old) {
+                    write!(output, " {index} {}", desk.words[index])?;
+                }
+                writeln!(output)
             }
-            writeln!(output)?;
+            Some(Told::Finding((number, x, y))) => writeln!(output, "a {number} {x} {y}"),
+            None => Ok(()),
         }
-        Ok(())
     })
 }

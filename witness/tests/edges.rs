@@ -11,18 +11,18 @@ const MAX: u64 = u64::MAX;
 fn number_63_is_accepted_and_64_refused() {
     let mut words = blank();
     for kind in 1..=3 {
-        assert_eq!(ask(&mut words, kind, 64, 0, 0), (4, 1, 0));
+        assert_eq!(ask(&mut words, kind, 64, 0, 0), (4, 1, 0, 0));
         accept(&mut words, &[(kind, 63, MAX, MAX)]);
-        assert_eq!(ask(&mut words, kind, 63, 0, 0), (5, 0, 0));
+        assert_eq!(ask(&mut words, kind, 63, 0, 0), (5, 0, 0, 0));
     }
     assert_eq!(words[..4], [1 << 63, 1 << 63, 1 << 63, 0]);
-    assert_eq!(ask(&mut words, 12, 64, 0, 1 << 63), (4, 1, 0));
+    assert_eq!(ask(&mut words, 12, 64, 0, 1 << 63), (4, 1, 0, 0));
     accept(&mut words, &[(8, 63, 63, MAX), (10, 63, 63, MAX), (11, 63, 63, MAX), (12, 63, MAX, 1 << 63)]);
-    assert_eq!(ask(&mut words, 13, 63, 64, 63), (4, 2, 0));
-    assert_eq!(ask(&mut words, 13, 63, 63, 64), (4, 3, 0));
+    assert_eq!(ask(&mut words, 13, 63, 64, 63), (4, 2, 0, 0));
+    assert_eq!(ask(&mut words, 13, 63, 63, 64), (4, 3, 0, 0));
     accept(&mut words, &[(13, 63, 63, 63)]);
     assert_eq!(words[4675], 8256);
-    assert_eq!(ask(&mut words, 14, 64, 0, 0), (4, 1, 0));
+    assert_eq!(ask(&mut words, 14, 64, 0, 0), (4, 1, 0, 0));
     accept(&mut words, &[(14, 63, MAX, MAX)]);
     assert_eq!((words[579], words[4675]), (0, 0));
 }
@@ -36,11 +36,30 @@ fn the_pair_of_0_and_63() {
             let mut joined = words.clone();
             accept(&mut joined, &[(kind, 0, 63, MAX)]);
             assert_eq!((joined[row], joined[row + 63]), (1 << 63, 1));
-            assert_eq!(ask(&mut joined, back, a, 64, 0), (4, 2, 0));
+            assert_eq!(ask(&mut joined, back, a, 64, 0), (4, 2, 0, 0));
             accept(&mut joined, &[(back, a, b, MAX)]);
             assert!(joined == words);
-            assert_eq!(ask(&mut joined, back, a, b, 0), (6, 0, 0));
+            assert_eq!(ask(&mut joined, back, a, b, 0), (6, 0, 0, 0));
         }
+    }
+}
+
+/// M-104 with the greatest numbers: what is held in order 63 counts in order 0 and the other way, also where all orders
+/// are open. Of the two tasks the greater is held, so that x is 63.
+#[test]
+fn hands_in_orders_0_and_63() {
+    let mut words = defined(64, 64, 64);
+    accept(&mut words, &[(4, 0, 63, 0), (8, 63, 63, 0), (8, 0, 0, 0)]);
+    (0..64).for_each(|order| accept(&mut words, &[(12, order, 0, MAX)]));
+    accept(&mut words, &[(10, 63, 63, 0), (11, 63, 63, 0)]);
+    for held_in in [0, 63] {
+        let mut words = words.clone();
+        accept(&mut words, &[(13, 63, held_in, 63), (17, 63, 63, 0), (10, 0, 63, 0), (11, 0, 63, 0)]);
+        for order in [0, 1, 62, 63] {
+            assert_eq!(ask(&mut words, 13, 0, order, 63), (33, 63, 0, held_in));
+        }
+        accept(&mut words, &[(14, held_in, 0, 0), (13, 0, 63 - held_in, 63)]);
+        assert_eq!(audit(&words), (0, 0, 0));
     }
 }
 
@@ -48,8 +67,8 @@ fn the_pair_of_0_and_63() {
 fn other_lengths_are_refused() {
     for length in [0, 1, 3, 580, 4675, 4677, 4700] {
         for kind in [0, 1, 13, 21, 22, MAX] {
-            assert_eq!(ask(&mut vec![0; length], kind, MAX, MAX, MAX), (1, 0, 0));
-            assert_eq!(ask(&mut vec![MAX; length], kind, 0, 0, 0), (1, 0, 0));
+            assert_eq!(ask(&mut vec![0; length], kind, MAX, MAX, MAX), (1, 0, 0, 0));
+            assert_eq!(ask(&mut vec![MAX; length], kind, 0, 0, 0), (1, 0, 0, 0));
         }
         assert_eq!(audit(&vec![MAX; length]), (1, 0, 0));
     }
@@ -58,22 +77,22 @@ fn other_lengths_are_refused() {
 #[test]
 fn kinds_0_and_22_are_refused() {
     for kind in [0, 22, 23, 256 + 1, (1 << 32) + 1, MAX] {
-        assert_eq!(ask(&mut blank(), kind, MAX, MAX, MAX), (3, 0, 0));
+        assert_eq!(ask(&mut blank(), kind, MAX, MAX, MAX), (3, 0, 0, 0));
     }
     let mut words = blank();
     words[3] = 1;
-    assert_eq!(ask(&mut words, 0, 0, 0, 0), (2, 3, 0));
+    assert_eq!(ask(&mut words, 0, 0, 0, 0), (2, 3, 0, 0));
 }
 
 #[test]
 fn the_mask_of_an_order() {
     let mut words = defined(2, 0, 0);
-    assert_eq!(ask(&mut words, 12, 0, 0, 0), (4, 3, 0));
-    assert_eq!(ask(&mut words, 12, 0, 0, 0b111), (4, 3, 0));
-    assert_eq!(ask(&mut words, 12, 0, 0, MAX), (4, 3, 0));
-    assert_eq!(ask(&mut words, 12, 64, 0, 0), (4, 1, 0));
+    assert_eq!(ask(&mut words, 12, 0, 0, 0), (4, 3, 0, 0));
+    assert_eq!(ask(&mut words, 12, 0, 0, 0b111), (4, 3, 0, 0));
+    assert_eq!(ask(&mut words, 12, 0, 0, MAX), (4, 3, 0, 0));
+    assert_eq!(ask(&mut words, 12, 64, 0, 0), (4, 1, 0, 0));
     accept(&mut words, &[(12, 0, MAX, 0b10)]);
-    assert_eq!(ask(&mut words, 12, 0, 0, 0b01), (5, 0, 0));
+    assert_eq!(ask(&mut words, 12, 0, 0, 0b01), (5, 0, 0, 0));
     let mut words = defined(64, 0, 0);
     accept(&mut words, &[(12, 5, 0, MAX)]);
     assert_eq!(words[521], MAX);
@@ -87,7 +106,7 @@ fn cells_8256_and_8257() {
     assert_eq!(audit(&words), (0, 0, 0));
     words[cell(2, 1)] = 8257;
     assert_eq!(audit(&words), (2, cell(2, 1) as u64, 0));
-    assert_eq!(ask(&mut words, 1, 0, 0, 0), (2, cell(2, 1) as u64, 0));
+    assert_eq!(ask(&mut words, 1, 0, 0, 0), (2, cell(2, 1) as u64, 0, 0));
     words[cell(2, 1)] = 8256;
     words[2] = 1;
     assert_eq!(audit(&words), (2, cell(2, 1) as u64, 0));
@@ -96,16 +115,16 @@ fn cells_8256_and_8257() {
 #[test]
 fn the_greatest_number_in_every_place() {
     for kind in 1..=21 {
-        assert_eq!(ask(&mut book_b(), kind, MAX, MAX, MAX), (4, 1, 0));
+        assert_eq!(ask(&mut book_b(), kind, MAX, MAX, MAX), (4, 1, 0, 0));
     }
     for kind in (4..=11).chain(15..=21) {
-        assert_eq!(ask(&mut book_b(), kind, 0, MAX, MAX), (4, 2, 0));
+        assert_eq!(ask(&mut book_b(), kind, 0, MAX, MAX), (4, 2, 0, 0));
     }
     let mut words = book_b();
     accept(&mut words, &[(12, 3, MAX, 1)]);
-    assert_eq!(ask(&mut words, 13, 0, MAX, MAX), (4, 2, 0));
-    assert_eq!(ask(&mut words, 13, 0, 3, MAX), (4, 3, 0));
-    assert_eq!(ask(&mut words, 12, 3, MAX, MAX), (4, 3, 0));
+    assert_eq!(ask(&mut words, 13, 0, MAX, MAX), (4, 2, 0, 0));
+    assert_eq!(ask(&mut words, 13, 0, 3, MAX), (4, 3, 0, 0));
+    assert_eq!(ask(&mut words, 12, 3, MAX, MAX), (4, 3, 0, 0));
 }
 
 /// Each way in which a word can be bad, alone on an otherwise good book.
@@ -117,7 +136,7 @@ fn every_bad_word() {
         let mut words = good.clone();
         words[index] = value;
         assert_eq!(audit(&words), (2, index as u64, 0), "word {index} as {value}");
-        assert_eq!(ask(&mut words, 0, MAX, MAX, MAX), (2, index as u64, 0));
+        assert_eq!(ask(&mut words, 0, MAX, MAX, MAX), (2, index as u64, 0, 0));
     }
     for &(index, value) in FINE {
         let mut words = good.clone();

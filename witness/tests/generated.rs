@@ -10,7 +10,7 @@ use witness::book::{lowest_bad_word, Book, WORDS};
 use witness::cases::{aimed_case, cases, taking_back, Ask, AIMS};
 use witness::count::Tally;
 use witness::request::{blind, refusal, request};
-use witness::stream::{answers, each_command, Command, Desk};
+use witness::stream::{answers, each_command, Command, Desk, Told};
 
 fn text_of_cases(seed: u64, count: u64) -> Vec<u8> {
     let mut text = Vec::new();
@@ -19,10 +19,10 @@ fn text_of_cases(seed: u64, count: u64) -> Vec<u8> {
 }
 
 /// Demand 3: on a book that passes the audit, where none of 1 to 11 applies, a request is accepted
-/// just where the blind change passes the audit, and then the blind book is the one kept.
+/// just where the blind change passes the audit, and then the blind book is the one kept. The audit has M-104's rule 9.
 #[test]
 fn accepted_just_where_the_blind_change_is_sound() {
-    let (mut accepted, mut refused) = (0, 0);
+    let (mut accepted, mut refused, mut because_of_another_order) = (0, 0, 0);
     walk(text_of_cases(2, 8_000), |words, kind, a, b, c| {
         if audit(words).0 != 0 || refusal(words, kind, a, b, c).is_some() {
             return;
@@ -36,9 +36,11 @@ fn accepted_just_where_the_blind_change_is_sound() {
             accepted += 1;
         } else {
             refused += 1;
+            because_of_another_order += u64::from(answer.0 == 33 && answer.3 != b);
         }
     });
     assert!(accepted > 1000 && refused > 200, "{accepted} accepted and {refused} refused show too little");
+    assert!(because_of_another_order >= 20, "{because_of_another_order} refused because of another order");
 }
 
 /// Hands on the book and the arguments of each request in a stream, before it is answered.
@@ -87,11 +89,11 @@ fn only_kind_11_changes_an_active_word() {
 }
 
 /// Every book reached from the blank one passes the audit. Roles are activated on the way, so that most allocations get
-/// past number 8.
+/// past number 8, and several orders are open, so that some are refused because of another one.
 #[test]
 fn every_book_reached_from_blank_is_sound() {
     let mut desk = Desk::new();
-    let (mut from_blank, mut seen, mut stopped_by_8, mut past_8) = (false, 0, 0, 0);
+    let (mut from_blank, mut seen, mut stopped_by_8, mut past_8, mut because_of_another_order) = (false, 0, 0, 0, 0);
     each_command(Cursor::new(text_of_cases(4, 8_000)), |command| {
         match command {
             Command::New(length) => from_blank = length == WORDS,
@@ -103,8 +105,11 @@ fn every_book_reached_from_blank_is_sound() {
             assert_eq!(audit(&desk.words), (0, 0, 0));
             seen += 1;
             match (command, answer) {
-                (Command::Request(13, ..), Some((8, ..))) => stopped_by_8 += 1,
-                (Command::Request(13, ..), Some((0 | 9.., ..))) => past_8 += 1,
+                (Command::Request(13, ..), Some(Told::Answer((8, ..)))) => stopped_by_8 += 1,
+                (Command::Request(13, _, b, _), Some(Told::Answer((number @ (0 | 9..), _, _, z)))) => {
+                    past_8 += 1;
+                    because_of_another_order += u64::from(number == 33 && z != b);
+                }
                 _ => {}
             }
         }
@@ -113,6 +118,7 @@ fn every_book_reached_from_blank_is_sound() {
     .expect("the cases are commands");
     assert!(seen > 1500, "{seen} books show too little");
     assert!(past_8 > 100 && past_8 > 2 * stopped_by_8, "{stopped_by_8} stopped by 8, only {past_8} past it");
+    assert!(because_of_another_order >= 10, "{because_of_another_order} stopped by what is held in another order");
 }
 
 /// Reading a well-formed book and writing it again gives the same words.
@@ -140,7 +146,7 @@ fn every_allowed_number_occurs() {
 #[test]
 fn pairs_are_taken_back_in_every_way() {
     let mut times: BTreeMap<_, u64> = BTreeMap::new();
-    walk(text_of_cases(9, 12_000), |words, kind, a, b, c| {
+    walk(text_of_cases(9, 15_000), |words, kind, a, b, c| {
         let fits = !matches!(refusal(words, kind, a, b, c), Some((1..=4, ..)));
         if (18..=21).contains(&kind) && fits {
             let (book, a, b) = (Book::read(words), a as usize, b as usize);
@@ -181,6 +187,152 @@ fn roles_are_met_in_every_way() {
     assert!(assigned.len() == 3 * 2 && assigned.values().all(|&times| times >= 5), "{assigned:?}");
     assert!(taken.len() == 3 && taken.values().all(|&times| times >= 5), "{taken:?}");
     assert!(stopped.len() == 2 * 2 && stopped.values().all(|&times| times >= 5), "{stopped:?}");
+}
+
+/// Whether the mask at the index has the number.
+fn has(words: &[u64], index: u64, number: u64) -> bool {
+    (words[index as usize] >> number) & 1 == 1
+}
+
+/// The subject group of a task, read off the words.
+fn group_of(words: &[u64], task: u64) -> Vec<u64> {
+    let mut group = vec![task];
+    while let Some(next) = (0..64).find(|t| !group.contains(t) && group.iter().any(|&u| has(words, 196 + u, *t))) {
+        group.push(next);
+    }
+    group
+}
+
+/// All (z, x, y) with task x held in order z by a hand of that sort, y of the given tasks, and y in x's row of the table
+/// that begins at the given word.
+fn triples(words: &[u64], table: u64, hand: impl Fn(u64) -> bool, ys: &[u64]) -> Vec<(u64, u64, u64)> {
+    let places = (0..64).flat_map(|z| (0..64).map(move |x| (z, x)));
+    let held = places.filter(|&(z, x)| hand(words[(580 + 64 * z + x) as usize] % 128));
+    held.flat_map(|(z, x)| ys.iter().filter(move |&&y| has(words, table + x, y)).map(move |&y| (z, x, y))).collect()
+}
+
+const SME: u64 = 4;
+const DME: u64 = 68;
+
+/// The tasks of a's subject group in order b, and those outside it.
+fn group_in_and_outside(words: &[u64], a: u64, b: u64) -> (Vec<u64>, Vec<u64>) {
+    group_of(words, a).into_iter().partition(|&t| has(words, 516 + b, t))
+}
+
+/// M-104: where none of 1 to 11 applies, an allocation gets 33 just where c holds, in some order z, a task x that is SME
+/// to a task y of what it would get, and then the lowest z, for it the lowest x, and for that the lowest y. Of all other
+/// numbers only 34 has a z, which is order b.
+#[test]
+fn every_33_names_the_lowest_order() {
+    walk(text_of_cases(13, 10_000), |words, kind, a, b, c| {
+        let answer = request(&mut words.to_vec(), kind, a, b, c);
+        match answer {
+            (33, ..) => {}
+            (34, _, _, z) => assert_eq!(z, b),
+            (_, _, _, z) => assert_eq!(z, 0),
+        }
+        if kind == 13 && refusal(words, kind, a, b, c).is_none() {
+            let (got, _) = group_in_and_outside(words, a, b);
+            let lowest = triples(words, SME, |hand| hand == c + 1, &got).into_iter().min();
+            let told = lowest.map(|(z, x, y)| (33, x, y, z));
+            assert_eq!((answer.0 == 33).then_some(answer), told, "task {a} in order {b} to subject {c}");
+        }
+    });
+}
+
+/// What would tell a wrong reading of M-104 from the right one is among the cases, many times over.
+#[test]
+fn hands_in_several_orders_are_met_in_every_way() {
+    let mut times: BTreeMap<&str, u64> = BTreeMap::new();
+    walk(text_of_cases(14, 12_000), |words, kind, a, b, c| {
+        if kind == 13 && refusal(words, kind, a, b, c).is_none() {
+            let (number, x, y, z) = request(&mut words.to_vec(), kind, a, b, c);
+            let ways = match number {
+                33 => ways_of_33(words, [a, b, c], [x, y, z]),
+                _ => ways_of_none(words, [a, b, c], number),
+            };
+            ways.into_iter().for_each(|(way, met)| *times.entry(way).or_default() += u64::from(met));
+        }
+    });
+    assert!(times.len() == 10 + 7 && times.values().all(|&times| times >= 8), "{times:#?}");
+}
+
+fn ways_of_33(words: &[u64], [a, b, c]: [u64; 3], [x, y, z]: [u64; 3]) -> Vec<(&'static str, bool)> {
+    let (got, outside) = group_in_and_outside(words, a, b);
+    let by_c = |hand: u64| hand == c + 1;
+    let sme = triples(words, SME, by_c, &got);
+    let dme_in_b = triples(words, DME, by_c, &got).iter().any(|dme| dme.0 == b);
+    let not_got = triples(words, SME, by_c, &outside);
+    vec![
+        ("z above 0", z > 0),
+        ("z below b", z < b),
+        ("z is b, and there is a higher one", z == b && sme.iter().any(|sme| sme.0 > b)),
+        ("z is b alone", sme.iter().all(|sme| sme.0 == b)),
+        ("z above b", z > b),
+        ("z below b, which counts too", z < b && sme.iter().any(|sme| sme.0 == b)),
+        ("a lower x in a higher order", sme.iter().any(|sme| sme.1 < x)),
+        ("x has several partners", sme.iter().filter(|sme| (sme.0, sme.1) == (z, x)).count() > 1),
+        ("z is not b, in which there is a 34", z != b && dme_in_b),
+        ("a lower z, x or y, but outside order b", not_got.iter().any(|sme| *sme < (z, x, y))),
+    ]
+}
+
+fn ways_of_none(words: &[u64], [a, b, c]: [u64; 3], number: u64) -> Vec<(&'static str, bool)> {
+    let (got, outside) = group_in_and_outside(words, a, b);
+    let by_c = |hand: u64| hand == c + 1;
+    let by_another = |hand: u64| hand > 0 && !by_c(hand);
+    let dme = triples(words, DME, by_c, &got);
+    let held_elsewhere = |x: u64| (0..64).any(|z| z != b && by_c(words[(580 + 64 * z + x) as usize] % 128));
+    let the_other_way = got.iter().any(|&y| (0..64).any(|x| has(words, SME + y, x) && held_elsewhere(x)));
+    let open = words[516..580].iter().filter(|&&tasks| tasks > 0).count();
+    vec![
+        ("accepted, with DME in another order", number == 0 && !dme.is_empty()),
+        ("34, with DME in a lower order", number == 34 && dme.iter().any(|dme| dme.0 < b)),
+        ("34, with DME in a higher order", number == 34 && dme.iter().any(|dme| dme.0 > b)),
+        ("SME outside order b", triples(words, SME, by_c, &outside).iter().any(|sme| sme.0 != b)),
+        ("SME in another hand", triples(words, SME, by_another, &got).iter().any(|sme| sme.0 != b)),
+        ("SME the other way", the_other_way),
+        ("accepted, with several orders open", number == 0 && open > 1),
+    ]
+}
+
+/// The cells, as orders p and q, that are in one hand though v is in u's row of the table: u in order p and v in order q.
+fn in_one_hand(words: &[u64], table: u64) -> Vec<(u64, u64)> {
+    let places = (0..64).flat_map(|p| (0..64).map(move |t| (p, t)));
+    let held: Vec<(u64, u64, u64)> = places.map(|(p, t)| (p, t, words[(580 + 64 * p + t) as usize] % 128)).collect();
+    let held: Vec<(u64, u64, u64)> = held.into_iter().filter(|&(_, _, hand)| hand > 0).collect();
+    let mut orders = Vec::new();
+    for &(p, u, hand) in &held {
+        let excluded = held.iter().filter(|&&(_, v, other)| other == hand && has(words, table + u, v));
+        orders.extend(excluded.map(|&(q, ..)| (p, q)));
+    }
+    orders
+}
+
+/// M-104: rule 9 is broken over two orders alone, with all other rules kept and with rule 10 broken too; and a DME pair
+/// in one hand over two orders breaks nothing.
+#[test]
+fn rule_9_is_broken_over_two_orders() {
+    let (mut alone, mut with_rule_10, mut with_one_order, mut dme_over_two) = (0, 0, 0, 0);
+    let mut desk = Desk::new();
+    each_command(Cursor::new(text_of_cases(15, 10_000)), |command| {
+        if let Some(Told::Finding((number @ (0 | 49 | 50), ..))) = desk.carry_out(command)? {
+            let (sme, dme) = (in_one_hand(&desk.words, SME), in_one_hand(&desk.words, DME));
+            let over_two = |pairs: &[(u64, u64)]| pairs.iter().all(|(p, q)| p != q);
+            assert_eq!(number != 49, sme.is_empty() && over_two(&dme));
+            let over_two_only = number == 49 && over_two(&sme) && over_two(&dme);
+            let rule_10 = rule_holds(&Book::read(&desk.words), 10);
+            alone += u64::from(over_two_only && rule_10);
+            with_rule_10 += u64::from(over_two_only && !rule_10);
+            with_one_order += u64::from(number == 49 && !over_two(&sme));
+            dme_over_two += u64::from(number == 0 && !dme.is_empty());
+        }
+        Ok(())
+    })
+    .expect("the cases are commands");
+    assert!(alone >= 15 && with_rule_10 >= 3, "{alone} times over two orders alone, {with_rule_10} with rule 10 too");
+    assert!(with_one_order >= 5, "{with_one_order} times an SME pair in one order");
+    assert!(dme_over_two >= 20, "{dme_over_two} times DME over two orders, which is no breach");
 }
 
 /// A book as it is laid in a stream, and the requests that are then asked of it.
@@ -286,10 +438,10 @@ fn every_rule_is_broken_alone() {
     let mut desk = Desk::new();
     each_command(Cursor::new(text_of_cases(6, 6_000)), |command| {
         let answer = desk.carry_out(command)?;
-        if command == Command::Audit && answer.is_some_and(|(number, ..)| number > 40) {
+        if let Some(Told::Finding((41.., ..))) = answer {
             let book = Book::read(&desk.words);
             let broken: Vec<u64> = (1..=10).filter(|&rule| !rule_holds(&book, rule)).collect();
-            assert_eq!(answer, Some((40 + broken[0], 0, 0)));
+            assert_eq!(answer, Some(Told::Finding((40 + broken[0], 0, 0))));
             if broken.len() == 1 {
                 alone[broken[0] as usize] += 1;
             }
@@ -313,7 +465,15 @@ fn the_format_of_answers() {
     let stream = "n 4676\nr 1 3 9 9\nr 1 3 0 0\nr 12 0 0 8\nr 7 3 3 0\nw 3 5\na\nr 2 0 0 0\nn 2\nw 1 7\na\n";
     let mut output = Vec::new();
     answers(Cursor::new(stream), &mut output).expect("the stream is right");
-    let expected = "r 0 0 0 0 8\nr 5 0 0\nr 0 0 0 516 8\nr 7 0 0\na 2 3 0\nr 2 3 0\na 1 0 0\n";
+    let expected = "r 0 0 0 0 0 8\nr 5 0 0 0\nr 0 0 0 0 516 8\nr 7 0 0 0\na 2 3 0\nr 2 3 0 0\na 1 0 0\n";
+    assert_eq!(String::from_utf8(output).expect("plain letters"), expected);
+    // The book of P14 with task 0 held in order 7, task 1 asked for in order 2 and then written there by hand.
+    let stream =
+        "n 4676\nw 0 3\nw 1 3\nw 2 1\nw 4 2\nw 5 1\nw 324 1\nw 325 2\nw 388 2\nw 452 2\nw 518 2\nw 523 1\nw 1028 129\n\
+                  a\nr 13 1 2 0\nw 709 257\na\nr 14 7 0 0\na\n";
+    let mut output = Vec::new();
+    answers(Cursor::new(stream), &mut output).expect("the stream is right");
+    let expected = "a 0 0 0\nr 33 0 1 7\na 49 0 0\nr 0 0 0 0 523 0 1028 0\na 0 0 0\n";
     assert_eq!(String::from_utf8(output).expect("plain letters"), expected);
     for wrong in ["x\n", "n 4701\n", "n 2\nw 2 0\n", "r 1 2 3\n", "r 1 2 3 -4\n", "n  2\n", "a \n"] {
         assert!(answers(Cursor::new(wrong), &mut Vec::new()).is_err(), "{wrong:?}");

@@ -12,7 +12,7 @@ use common::{accept, ask, blank, defined};
 use witness::audit::audit;
 use witness::book::Book;
 use witness::cases::{agreed_list, likely, rearranged, taking_back, Ask, Chance, Floor};
-use witness::{Answer, ACCEPTED};
+use witness::{Answer, ACCEPTED, SOUND};
 
 /// A book that passes the audit, a list of requests of kinds 4 to 10, and the book after them.
 struct Setting {
@@ -126,7 +126,7 @@ fn every_order_is_accepted_and_leads_to_the_same_words() {
     let mut chance = Chance::new(1);
     let mut orders = 0;
     for setting in settings() {
-        assert_eq!(audit(&setting.first), ACCEPTED);
+        assert_eq!(audit(&setting.first), SOUND);
         assert!(played(&setting.first, &setting.list) == (vec![ACCEPTED; setting.list.len()], setting.last.clone()));
         for order in orders_of(&mut chance, &setting.list) {
             let (answers, words) = played(&setting.first, &order);
@@ -257,11 +257,11 @@ fn two_roles() -> Vec<u64> {
 fn where_one_is_refused_the_first_one_wins() {
     let mut words = two_roles();
     accept(&mut words, &[(4, 0, 1, 0)]);
-    assert_eq!(audit(&words), ACCEPTED);
+    assert_eq!(audit(&words), SOUND);
     let (answers, one) = played(&words, &[(10, 0, 0, 0), (10, 1, 0, 0)]);
-    assert_eq!((answers, one[388]), (vec![(0, 0, 0), (32, 0, 0)], 0b01));
+    assert_eq!((answers, one[388]), (vec![(0, 0, 0, 0), (32, 0, 0, 0)], 0b01));
     let (answers, other) = played(&words, &[(10, 1, 0, 0), (10, 0, 0, 0)]);
-    assert_eq!((answers, other[388]), (vec![(0, 0, 0), (32, 0, 1)], 0b10));
+    assert_eq!((answers, other[388]), (vec![(0, 0, 0, 0), (32, 0, 1, 0)], 0b10));
 }
 
 /// A control: with kind 11 in the list all is accepted in both orders, and the last one wins.
@@ -269,11 +269,11 @@ fn where_one_is_refused_the_first_one_wins() {
 fn among_activations_the_last_one_wins() {
     let mut words = two_roles();
     accept(&mut words, &[(10, 0, 0, 0), (10, 1, 0, 0)]);
-    assert_eq!(audit(&words), ACCEPTED);
+    assert_eq!(audit(&words), SOUND);
     let (answers, one) = played(&words, &[(11, 0, 0, 0), (11, 1, 0, 0)]);
-    assert_eq!((answers, one[452]), (vec![(0, 0, 0), (0, 0, 0)], 2));
+    assert_eq!((answers, one[452]), (vec![(0, 0, 0, 0), (0, 0, 0, 0)], 2));
     let (answers, other) = played(&words, &[(11, 1, 0, 0), (11, 0, 0, 0)]);
-    assert_eq!((answers, other[452]), (vec![(0, 0, 0), (0, 0, 0)], 1));
+    assert_eq!((answers, other[452]), (vec![(0, 0, 0, 0), (0, 0, 0, 0)], 1));
 }
 
 /// Controls: beside a request of kinds 4 to 10 one of another kind. Both are accepted in this order; the answers are
@@ -281,13 +281,13 @@ fn among_activations_the_last_one_wins() {
 #[test]
 fn other_kinds_have_an_order() {
     let lists = [
-        ([(1, 2, 0, 0), (4, 0, 2, 0)], [(4, 2, 0), (0, 0, 0)]),
-        ([(2, 2, 0, 0), (8, 0, 2, 0)], [(4, 2, 0), (0, 0, 0)]),
-        ([(3, 1, 0, 0), (10, 0, 1, 0)], [(4, 2, 0), (0, 0, 0)]),
-        ([(10, 1, 0, 0), (11, 1, 0, 0)], [(8, 0, 0), (0, 0, 0)]),
-        ([(6, 0, 1, 0), (12, 9, 0, 1)], [(0, 0, 0), (7, 9, 0)]),
-        ([(9, 0, 1, 0), (16, 0, 1, 0)], [(6, 0, 0), (0, 0, 0)]),
-        ([(5, 0, 1, 0), (19, 0, 1, 0)], [(6, 0, 0), (0, 0, 0)]),
+        ([(1, 2, 0, 0), (4, 0, 2, 0)], [(4, 2, 0, 0), (0, 0, 0, 0)]),
+        ([(2, 2, 0, 0), (8, 0, 2, 0)], [(4, 2, 0, 0), (0, 0, 0, 0)]),
+        ([(3, 1, 0, 0), (10, 0, 1, 0)], [(4, 2, 0, 0), (0, 0, 0, 0)]),
+        ([(10, 1, 0, 0), (11, 1, 0, 0)], [(8, 0, 0, 0), (0, 0, 0, 0)]),
+        ([(6, 0, 1, 0), (12, 9, 0, 1)], [(0, 0, 0, 0), (7, 9, 0, 0)]),
+        ([(9, 0, 1, 0), (16, 0, 1, 0)], [(6, 0, 0, 0), (0, 0, 0, 0)]),
+        ([(5, 0, 1, 0), (19, 0, 1, 0)], [(6, 0, 0, 0), (0, 0, 0, 0)]),
     ];
     for ([first, second], answers) in lists {
         assert_eq!(played(&two_roles(), &[first, second]).0, [ACCEPTED; 2]);
@@ -303,9 +303,9 @@ fn on_an_unsound_book_the_order_matters() {
     words[4] = 0b10;
     assert_eq!(audit(&words), (42, 0, 0));
     let (answers, one) = played(&words, &[(10, 1, 0, 0), (10, 0, 0, 0)]);
-    assert_eq!((answers, one[388]), (vec![(0, 0, 0), (0, 0, 0)], 0b11));
+    assert_eq!((answers, one[388]), (vec![(0, 0, 0, 0), (0, 0, 0, 0)], 0b11));
     let (answers, other) = played(&words, &[(10, 0, 0, 0), (10, 1, 0, 0)]);
-    assert_eq!((answers, other[388]), (vec![(0, 0, 0), (32, 0, 0)], 0b01));
+    assert_eq!((answers, other[388]), (vec![(0, 0, 0, 0), (32, 0, 0, 0)], 0b01));
 }
 
 /// A control: on a book that fails the audit a pair may have one bit already. It is added from its other end, and taken
@@ -317,7 +317,7 @@ fn on_an_unsound_book_taking_back_leaves_a_trace() {
         words[row] = 0b10;
         assert_eq!(audit(&words), (42, 0, 0));
         let (answers, after) = played(&words, &[(kind, 1, 0, 0), taking_back((kind, 1, 0, 0))]);
-        assert_eq!((answers, after[row]), (vec![(0, 0, 0), (0, 0, 0)], 0));
+        assert_eq!((answers, after[row]), (vec![(0, 0, 0, 0), (0, 0, 0, 0)], 0));
     }
 }
 

@@ -1,4 +1,5 @@
-//! "Numbers to check by": P1 to P14, word for word, and what becomes of some of them when a pair is taken back.
+//! "Numbers to check by": P1 to P14, word for word, with the z of M-104, and what becomes of some of them when a pair is
+//! taken back, nothing is activated, or there are several orders.
 
 mod common;
 
@@ -24,23 +25,23 @@ fn book_b_has_these_words() {
 
 #[test]
 fn p1_to_p4() {
-    assert_eq!(ask(&mut book_b(), 5, 0, 1, 0), (22, 0, 0));
-    assert_eq!(ask(&mut book_b(), 4, 2, 3, 0), (23, 0, 0));
-    assert_eq!(ask(&mut book_b(), 4, 2, 5, 0), (24, 0, 0));
-    assert_eq!(ask(&mut book_b(), 4, 4, 5, 0), (25, 3, 0));
+    assert_eq!(ask(&mut book_b(), 5, 0, 1, 0), (22, 0, 0, 0));
+    assert_eq!(ask(&mut book_b(), 4, 2, 3, 0), (23, 0, 0, 0));
+    assert_eq!(ask(&mut book_b(), 4, 2, 5, 0), (24, 0, 0, 0));
+    assert_eq!(ask(&mut book_b(), 4, 4, 5, 0), (25, 3, 0, 0));
 }
 
 #[test]
 fn p5_to_p7() {
-    assert_eq!(ask(&mut book_b(), 7, 3, 4, 0), (28, 2, 4));
-    assert_eq!(ask(&mut book_b(), 10, 1, 0, 0), (32, 0, 0));
-    assert_eq!(ask(&mut book_b(), 8, 1, 0, 0), (31, 0, 0));
+    assert_eq!(ask(&mut book_b(), 7, 3, 4, 0), (28, 2, 4, 0));
+    assert_eq!(ask(&mut book_b(), 10, 1, 0, 0), (32, 0, 0, 0));
+    assert_eq!(ask(&mut book_b(), 8, 1, 0, 0), (31, 0, 0, 0));
 }
 
 #[test]
 fn p8_and_p9() {
-    assert_eq!(ask(&mut book_b(), 9, 3, 2, 0), (30, 0, 0));
-    assert_eq!(ask(&mut book_b(), 9, 0, 1, 0), (31, 1, 1));
+    assert_eq!(ask(&mut book_b(), 9, 3, 2, 0), (30, 0, 0, 0));
+    assert_eq!(ask(&mut book_b(), 9, 0, 1, 0), (31, 1, 1, 0));
 }
 
 #[test]
@@ -48,13 +49,13 @@ fn p10_to_p12() {
     let mut words = book_b();
     accept(&mut words, &[(12, 0, 0, 60), (13, 2, 0, 1)]);
     assert_eq!(words[cell(0, 2)..=cell(0, 5)], [514, 514, 0, 512]);
-    assert_eq!(ask(&mut words, 13, 4, 0, 1), (34, 2, 4));
+    assert_eq!(ask(&mut words, 13, 4, 0, 1), (34, 2, 4, 0));
     accept(&mut words, &[(13, 4, 0, 2)]);
     assert_eq!(words[cell(0, 4)], 515);
-    assert_eq!(ask(&mut words, 13, 3, 0, 2), (9, 1, 0));
+    assert_eq!(ask(&mut words, 13, 3, 0, 2), (9, 1, 0, 0));
     accept(&mut words, &[(13, 5, 0, 2)]);
     assert_eq!(words[cell(0, 5)], 515);
-    assert_eq!(ask(&mut words, 4, 0, 2, 0), (7, 0, 0));
+    assert_eq!(ask(&mut words, 4, 0, 2, 0), (7, 0, 0, 0));
     let mut expected = book_b();
     expected[516] = 60;
     expected[cell(0, 2)..=cell(0, 5)].copy_from_slice(&[514, 514, 515, 515]);
@@ -65,7 +66,7 @@ fn p10_to_p12() {
 fn p13() {
     let mut words = defined(4, 0, 0);
     accept(&mut words, &[(7, 0, 1, 0), (7, 2, 3, 0), (4, 1, 3, 0)]);
-    assert_eq!(ask(&mut words, 7, 0, 2, 0), (27, 1, 3));
+    assert_eq!(ask(&mut words, 7, 0, 2, 0), (27, 1, 3, 0));
 }
 
 /// The book of P14, up to the assignment of role 1.
@@ -79,9 +80,36 @@ fn book_of_p14() -> Vec<u64> {
 #[test]
 fn p14() {
     let mut words = book_of_p14();
-    assert_eq!(ask(&mut words, 13, 1, 0, 0), (8, 0, 0));
+    assert_eq!(ask(&mut words, 13, 1, 0, 0), (8, 0, 0, 0));
     accept(&mut words, &[(11, 1, 0, 0)]);
-    assert_eq!(ask(&mut words, 13, 1, 0, 0), (33, 0, 1));
+    assert_eq!(ask(&mut words, 13, 1, 0, 0), (33, 0, 1, 0));
+}
+
+/// M-104: P11 in an order other than 0 names that order, and the DME partner in another order changes nothing.
+#[test]
+fn p11_in_other_orders() {
+    let mut words = book_b();
+    accept(&mut words, &[(12, 5, 0, 60), (12, 3, 0, 60), (13, 2, 5, 1)]);
+    assert_eq!(ask(&mut words, 13, 4, 5, 1), (34, 2, 4, 5));
+    accept(&mut words, &[(13, 4, 3, 1)]);
+    assert_eq!((words[cell(3, 4)], audit(&words)), (514, (0, 0, 0)));
+    assert_eq!(ask(&mut words, 13, 2, 3, 1), (34, 4, 2, 3));
+}
+
+/// M-104: P14 with task 0 held in one order and task 1 asked for in another, below or above; and again when the order
+/// of task 0 is closed.
+#[test]
+fn p14_in_other_orders() {
+    for (held_in, asked_in) in [(4, 9), (9, 4)] {
+        let mut words = defined(2, 2, 1);
+        accept(&mut words, &[(4, 0, 1, 0), (8, 0, 0, 0), (8, 1, 1, 0), (10, 0, 0, 0), (11, 0, 0, 0)]);
+        accept(&mut words, &[(12, held_in, 0, 1), (12, asked_in, 0, 2), (13, 0, held_in, 0), (17, 0, 0, 0)]);
+        accept(&mut words, &[(10, 1, 0, 0)]);
+        assert_eq!(ask(&mut words, 13, 1, asked_in, 0), (8, 0, 0, 0));
+        accept(&mut words, &[(11, 1, 0, 0)]);
+        assert_eq!(ask(&mut words, 13, 1, asked_in, 0), (33, 0, 1, held_in));
+        accept(&mut words, &[(14, held_in, 0, 0), (13, 1, asked_in, 0)]);
+    }
 }
 
 /// M-101: Book B and the book of P14 say who activated what. Without that their first allocations get 8.
@@ -90,11 +118,11 @@ fn without_activating() {
     let mut words = book_b();
     words[452..=454].fill(0);
     accept(&mut words, &[(12, 0, 0, 60)]);
-    assert_eq!(ask(&mut words, 13, 2, 0, 1), (8, 0, 0));
+    assert_eq!(ask(&mut words, 13, 2, 0, 1), (8, 0, 0, 0));
     accept(&mut words, &[(11, 3, 1, 0), (13, 2, 0, 1)]);
     let mut words = defined(2, 2, 1);
     accept(&mut words, &[(4, 0, 1, 0), (8, 0, 0, 0), (8, 1, 1, 0), (10, 0, 0, 0), (12, 0, 0, 3)]);
-    assert_eq!(ask(&mut words, 13, 0, 0, 0), (8, 0, 0));
+    assert_eq!(ask(&mut words, 13, 0, 0, 0), (8, 0, 0, 0));
 }
 
 /// P1, P2, P3, P5 and P13 after the pair that they met was taken back: accepted, or the next conflict of the kind.
@@ -105,10 +133,10 @@ fn without_the_pair_they_met() {
         accept(&mut words, &[back]);
         ask(&mut words, kind, a, b, 0)
     };
-    assert_eq!(after((18, 0, 1, 0), 5, 0, 1), (0, 0, 0));
-    assert_eq!(after((21, 2, 3, 0), 4, 2, 3), (25, 2, 0));
-    assert_eq!(after((20, 3, 5, 0), 4, 2, 5), (25, 3, 0));
-    assert_eq!(after((19, 4, 2, 0), 7, 3, 4), (0, 0, 0));
+    assert_eq!(after((18, 0, 1, 0), 5, 0, 1), (0, 0, 0, 0));
+    assert_eq!(after((21, 2, 3, 0), 4, 2, 3), (25, 2, 0, 0));
+    assert_eq!(after((20, 3, 5, 0), 4, 2, 5), (25, 3, 0, 0));
+    assert_eq!(after((19, 4, 2, 0), 7, 3, 4), (0, 0, 0, 0));
     let mut words = defined(4, 0, 0);
     accept(&mut words, &[(7, 0, 1, 0), (7, 2, 3, 0), (4, 1, 3, 0), (18, 1, 3, 0), (7, 0, 2, 0)]);
 }

@@ -4,6 +4,7 @@ use super::chance::Chance;
 use crate::book::Book;
 use crate::count::allowed_places;
 use crate::request::LAST_KIND;
+use crate::trade::tasks_owned_by_role;
 
 /// A kind and its three numbers.
 pub type Ask = (u64, u64, u64, u64);
@@ -22,7 +23,7 @@ impl Floor {
             let count = chance.between(fewest, most);
             chance.some_numbers(count)
         };
-        Floor { tasks: some(fewest, most), roles: some(fewest, most), subjects: some(fewest, most), orders: some(1, 4) }
+        Floor { tasks: some(fewest, most), roles: some(fewest, most), subjects: some(fewest, most), orders: some(2, 5) }
     }
 
     /// What a book has, and one number of each sort besides.
@@ -117,15 +118,19 @@ fn likely_open(chance: &mut Chance, book: &Book, otherwise: u64) -> u64 {
 fn likely_allocation(chance: &mut Chance, floor: &Floor, book: &Book) -> Ask {
     let order = chance.pick(&floor.orders) as u64;
     let order = likely_open(chance, book, order);
-    let its_tasks: Vec<usize> = book.orders[order as usize].members().collect();
-    let task = match chance.percent(93) && !its_tasks.is_empty() {
-        true => chance.pick(&its_tasks),
-        false => chance.pick(&floor.tasks),
-    };
     let ready: Vec<usize> = book.subjects.members().filter(|&s| book.active[s].is_some()).collect();
     let subject = match chance.percent(85) && !ready.is_empty() {
         true => chance.pick(&ready),
         false => chance.pick(&floor.subjects),
+    };
+    let its_tasks = book.orders[order as usize];
+    let fitting = book.active[subject].map_or(its_tasks, |role| its_tasks.and(&tasks_owned_by_role(book, role)));
+    // Half of the time a task that the subject's role owns, else number 11 would be told too often.
+    let picked = if chance.percent(50) && !fitting.is_empty() { fitting } else { its_tasks };
+    let picked: Vec<usize> = picked.members().collect();
+    let task = match chance.percent(93) && !picked.is_empty() {
+        true => chance.pick(&picked),
+        false => chance.pick(&floor.tasks),
     };
     (13, task as u64, order, subject as u64)
 }

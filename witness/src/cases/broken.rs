@@ -1,4 +1,4 @@
-//! Sound books with one rule of the audit broken, and nothing else wrong with them.
+//! Sound books with one rule of the audit broken, or nearly so, and nothing else wrong with them.
 
 use super::scene::{Pair, Scene};
 use crate::book::Cell;
@@ -59,14 +59,50 @@ fn give_subject_a_pair(scene: &mut Scene, u: usize, v: usize) {
     scene.join(Pair::Sme, u, v);
 }
 
+/// Both tasks of a pair in one hand: in one order, or of an SME pair in two orders, the second now and then twice.
 fn give_both_to_one(scene: &mut Scene, u: usize, v: usize) {
-    let (order, role, other, subject) = (scene.order(), scene.role(), scene.role(), scene.subject());
-    let pair = scene.chance.pick(&[Pair::Sme, Pair::Dme]);
+    let subject = scene.subject();
+    let (one, other, third) = (scene.order(), scene.order(), scene.order());
+    let (pair, orders_of_v) = match scene.chance.below(6) {
+        0 => (Pair::Sme, vec![one]),
+        1 => (Pair::Dme, vec![one]),
+        2 => (Pair::Sme, vec![other, third]),
+        _ => (Pair::Sme, vec![other]),
+    };
     scene.join(pair, u, v);
-    for (task, role) in [(u, role), (v, other)] {
-        scene.book.orders[order].put(task);
-        scene.book.cells[order][task] = Cell { role: Some(role), subject: Some(subject) };
+    give(scene, one, u, Some(subject));
+    orders_of_v.into_iter().for_each(|order| give(scene, order, v, Some(subject)));
+    match scene.chance.below(10) {
+        0..=2 => nearly_break_rule_9(scene),
+        // Rule 10 is broken too, and must not be told.
+        3 | 4 => {
+            let first = scene.task();
+            part_a_group(scene, first);
+        }
+        _ => {}
     }
+}
+
+/// The order has the task, in some role, and in the hand of this subject or of nobody.
+fn give(scene: &mut Scene, order: usize, task: usize, subject: Option<usize>) {
+    let role = scene.role();
+    scene.book.orders[order].put(task);
+    scene.book.cells[order][task] = Cell { role: Some(role), subject };
+}
+
+/// Rule 9 is kept, though one who takes DME for SME, one hand for another or nobody for somebody would say it is not:
+/// a DME pair in one hand over two orders, an SME pair in two hands, or with one of its tasks in nobody's.
+pub fn nearly_break_rule_9(scene: &mut Scene) {
+    let (u, v, one, other) = (scene.task(), scene.task(), scene.order(), scene.order());
+    let (subject, second) = (Some(scene.subject()), Some(scene.subject()));
+    let (pair, of_u, of_v) = match scene.chance.below(5) {
+        0..=2 => (Pair::Dme, subject, subject),
+        3 => (Pair::Sme, subject, second),
+        _ => (Pair::Sme, None, scene.chance.pick(&[None, subject])),
+    };
+    scene.join(pair, u, v);
+    give(scene, one, u, of_u);
+    give(scene, other, v, of_v);
 }
 
 /// The two ends of a chain lie in one order with different hands; the tasks between them need not.

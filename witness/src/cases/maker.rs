@@ -2,11 +2,12 @@
 
 use super::asks::{extreme, likely, spoiled, strange_kind, Ask, Floor};
 use super::books::{full, longest, small};
-use super::broken::break_rule;
+use super::broken::{break_rule, nearly_break_rule_9};
 use super::chance::Chance;
 use super::crowds::{crowded_gain, crowded_job, crowded_pair, new_hand};
 use super::damage::{damage, WAYS};
 use super::foremen::{small_cell, taking_back, two_orders};
+use super::hands::{change_of_trade, closed_one_by_one, many_hands};
 use super::scene::Scene;
 use super::sheet::Sheet;
 use super::situations::{lay, AIMS};
@@ -49,6 +50,7 @@ impl Maker {
     /// One round: some cases of every sort.
     pub fn round(&mut self) {
         self.run_from_blank();
+        self.run_of_many_orders();
         for _ in 0..3 {
             let book = small(&mut self.chance);
             self.hand_made(book, 25);
@@ -58,8 +60,11 @@ impl Maker {
         (0..2).for_each(|_| self.crowded(crowded_gain));
         (0..2).for_each(|_| self.crowded(crowded_job));
         self.crowded(new_hand);
+        self.crowded(closed_one_by_one);
+        (0..2).for_each(|_| self.crowded(many_hands));
         [false, false, true].into_iter().for_each(|quarrelling| self.two_foremen(quarrelling));
-        (1..=10).for_each(|rule| self.broken(rule));
+        (1..=10).chain([9, 9]).for_each(|rule| self.broken(rule));
+        self.nearly_broken();
         for step in 0..4 {
             self.damaged((4 * self.rounds + step) % WAYS);
         }
@@ -88,6 +93,9 @@ impl Maker {
             for _ in 0..self.chance.between(20, 60) {
                 let kind = self.chance.pick(kinds);
                 self.ask_likely(&floor, kind);
+                if kinds == RUNNING && self.chance.percent(10) {
+                    self.change_trade();
+                }
             }
             self.keep();
             if kinds == RUNNING && self.chance.percent(80) {
@@ -95,6 +103,33 @@ impl Maker {
             }
         }
         self.sheet.audit();
+    }
+
+    /// A run from the blank book in which several orders are open at once and people change their trade meanwhile, so
+    /// that an allocation in one order is often refused because of another one, though the book is sound all the time.
+    fn run_of_many_orders(&mut self) {
+        self.sheet.lay(vec![0; WORDS]);
+        let floor = Floor::new(&mut self.chance, 4, 7);
+        for ask in a_cell_with_exclusions(&mut self.chance, &floor) {
+            self.sheet.ask(ask);
+        }
+        self.take_up_roles();
+        for _ in 0..self.chance.between(15, 30) {
+            match self.chance.below(20) {
+                0..=11 => self.ask_likely(&floor, 13),
+                12..=17 => self.change_trade(),
+                18 => self.ask_likely(&floor, 12),
+                _ => self.ask_likely(&floor, 14),
+            }
+        }
+        self.sheet.audit();
+        self.keep();
+    }
+
+    fn change_trade(&mut self) {
+        for ask in change_of_trade(&mut self.chance, &self.sheet.book()) {
+            self.sheet.ask(ask);
+        }
     }
 
     /// Before orders run, most subjects that act in no role activate one they have, else nobody could work.
@@ -251,6 +286,15 @@ impl Maker {
         self.hand_made(book, 3);
     }
 
+    /// A sound book in which rule 9 looks broken, and is kept.
+    fn nearly_broken(&mut self) {
+        let ground = self.ground(true);
+        let mut scene = Scene::over(&mut self.chance, ground, false);
+        nearly_break_rule_9(&mut scene);
+        let book = scene.book;
+        self.hand_made(book, 3);
+    }
+
     /// A book with one or two bad words: its audit, and requests of many kinds.
     fn damaged(&mut self, way: usize) {
         // A job on the ground sees to it that there are cells to damage.
@@ -340,6 +384,34 @@ impl Maker {
             self.ask_likely(&floor, kind);
         }
     }
+}
+
+/// The requests that set up a cell on the blank book, with exclusions and a binding or two, tasks shared out among the
+/// roles and a role for each subject, and that open all orders of the floor, most tasks in each.
+fn a_cell_with_exclusions(chance: &mut Chance, floor: &Floor) -> Vec<Ask> {
+    let defined = [(1, &floor.tasks), (2, &floor.roles), (3, &floor.subjects)];
+    let mut asks: Vec<Ask> =
+        defined.iter().flat_map(|&(kind, numbers)| numbers.iter().map(move |&n| (kind, n as u64, 0, 0))).collect();
+    let some = |chance: &mut Chance, list: &[usize]| chance.pick(list) as u64;
+    for kind in [4, 4, 4, 4, 5, 5, 7] {
+        let (a, b, role) = (some(chance, &floor.tasks), some(chance, &floor.tasks), some(chance, &floor.roles));
+        asks.push((kind, a, b, 0));
+        // What is not SME one role may own, so that one hand comes to both.
+        if kind != 4 {
+            asks.extend([(8, a, role, 0), (8, b, role, 0)]);
+        }
+    }
+    for &task in &floor.tasks {
+        (0..2).for_each(|_| asks.push((8, task as u64, some(chance, &floor.roles), 0)));
+    }
+    for &subject in &floor.subjects {
+        asks.push((10, some(chance, &floor.roles), subject as u64, 0));
+    }
+    for &order in &floor.orders {
+        let mask = chance.part_of(&floor.tasks, 800).mask();
+        asks.push((12, order as u64, 0, mask));
+    }
+    asks
 }
 
 /// Closes all orders, so that the pair tables may be changed.

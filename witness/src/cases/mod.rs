@@ -1,5 +1,5 @@
-//! Cases to compare by: runs from the blank book, hand-made books, aimed situations, one list in two orders, damage,
-//! extremes.
+//! Cases to compare by: runs from the blank book, hand-made books, aimed situations, one list in two orders, one pair of
+//! hands in several orders, damage, extremes.
 
 use std::io::{Result, Write};
 
@@ -10,6 +10,7 @@ mod chance;
 mod crowds;
 mod damage;
 mod foremen;
+mod hands;
 mod maker;
 mod scene;
 mod sheet;

@@ -65,6 +65,23 @@ impl<'a> Scene<'a> {
         self.free_orders.pop().unwrap_or_else(|| self.chance.below(64))
     }
 
+    /// The same, below the given order where there is one.
+    pub fn order_below(&mut self, order: usize) -> usize {
+        self.order_that(|p| p < order)
+    }
+
+    /// The same, above the given order where there is one.
+    pub fn order_above(&mut self, order: usize) -> usize {
+        self.order_that(|p| p > order)
+    }
+
+    fn order_that(&mut self, fits: impl Fn(usize) -> bool) -> usize {
+        match self.free_orders.iter().position(|&p| fits(p)) {
+            Some(place) => self.free_orders.remove(place),
+            None => self.order(),
+        }
+    }
+
     pub fn table(&mut self, pair: Pair) -> &mut Table {
         match pair {
             Pair::Sme => &mut self.book.sme,

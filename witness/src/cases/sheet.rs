@@ -4,7 +4,7 @@ use super::asks::Ask;
 use crate::audit::audit;
 use crate::book::Book;
 use crate::request::request;
-use crate::Answer;
+use crate::{Answer, Finding};
 
 /// The text of the cases so far and the book they lead to.
 pub struct Sheet {
@@ -33,7 +33,7 @@ impl Sheet {
         request(&mut self.words, kind, a, b, c)
     }
 
-    pub fn audit(&mut self) -> Answer {
+    pub fn audit(&mut self) -> Finding {
         self.text += "a\n";
         audit(&self.words)
     }

@@ -1,6 +1,7 @@
 //! Aimed situations: for a kind and a number, a small situation that brings just this number about.
 
 use super::asks::Ask;
+use super::hands::{hold, hold_harmless_elsewhere, hold_in_several_orders};
 use super::scene::{Pair, Scene};
 use crate::book::Cell;
 use crate::set::Set;
@@ -18,9 +19,10 @@ pub const AIMS: &[(u64, u64)] = &[
     (7, 0), (7, 5), (7, 7), (7, 20), (7, 21), (7, 22), (7, 27), (7, 28),
     (8, 0), (8, 31), (8, 32),
     (9, 0), (9, 5), (9, 29), (9, 30), (9, 31), (9, 32), (9, 32),
-    (10, 0), (10, 32),
+    (10, 0), (10, 0), (10, 32),
     (11, 0), (11, 8),
     (13, 0), (13, 4), (13, 8), (13, 9), (13, 10), (13, 11), (13, 33), (13, 34), (13, 33), (13, 34), (13, 0),
+    (13, 33), (13, 33), (13, 33), (13, 34), (13, 0), (13, 0),
     (16, 0), (16, 6),
     (18, 0), (18, 0), (18, 6), (18, 6), (18, 7), (19, 0), (19, 0), (19, 6), (19, 6), (19, 7),
     (20, 0), (20, 0), (20, 6), (20, 6), (20, 7), (21, 0), (21, 0), (21, 6), (21, 6), (21, 7),
@@ -144,7 +146,7 @@ fn pair_to_take(scene: &mut Scene, kind: u64, number: u64) -> (usize, usize) {
 /// A pair with both bits, with bit b of row a alone, or of a task with itself. The last two only an unsound book shows.
 fn pair_there(scene: &mut Scene, pair: Pair) -> (usize, usize) {
     let a = scene.task();
-    match scene.chance.below(5) {
+    match scene.chance.below(6) {
         0 | 1 => {
             let b = scene.task();
             scene.join(pair, a, b);
@@ -387,7 +389,10 @@ fn allocation(scene: &mut Scene, number: u64) -> Ask {
 /// Lays the trouble that a number speaks of about a job.
 pub fn trouble(scene: &mut Scene, job: &Job, number: u64) {
     match number {
-        0 => hold_harmless(scene, job),
+        0 => {
+            hold_harmless(scene, job);
+            hold_harmless_elsewhere(scene, job);
+        }
         8 => lose_the_role(scene, job),
         9 => {
             let role = scene.book.cells[job.order][job.task].role.unwrap_or(job.role);
@@ -405,8 +410,12 @@ pub fn trouble(scene: &mut Scene, job: &Job, number: u64) {
                 scene.book.tasks_of_role.iter_mut().for_each(|row| row.take(t));
             }
         }
-        33 => hold_excluding(scene, job, Pair::Sme),
-        34 => hold_excluding(scene, job, Pair::Dme),
+        33 if scene.chance.percent(30) => hold_excluding(scene, job, Pair::Sme),
+        33 => hold_in_several_orders(scene, job),
+        34 => {
+            hold_excluding(scene, job, Pair::Dme);
+            hold_harmless_elsewhere(scene, job);
+        }
         _ => {}
     }
 }
@@ -434,7 +443,7 @@ fn hold_harmless(scene: &mut Scene, job: &Job) {
     }
     let (held, y, pair) = (scene.task(), scene.chance.pick(&harmless), scene.chance.pick(&[Pair::Sme, Pair::Dme]));
     scene.join(pair, held, y);
-    hold(scene, job, held);
+    hold(scene, job, job.order, held);
 }
 
 /// The subject acts in no role, or in one that it does not own now. It has the roles that it had, another one or none.
@@ -456,21 +465,15 @@ fn lose_the_role(scene: &mut Scene, job: &Job) {
 
 /// The subject holds one or two tasks of the order that exclude tasks of the group. Now and then it
 /// is a task of the group itself, which only an unsound book shows.
-fn hold_excluding(scene: &mut Scene, job: &Job, pair: Pair) {
+pub fn hold_excluding(scene: &mut Scene, job: &Job, pair: Pair) {
     for _ in 0..scene.chance.between(1, 2) {
         let (new, member) = (scene.task(), scene.chance.pick(&job.bound));
         let held = if member != job.task && scene.chance.percent(40) { member } else { new };
         let y = if held == member && scene.chance.percent(50) { held } else { scene.chance.pick(&job.bound) };
         scene.join(pair, held, y);
-        hold(scene, job, held);
+        hold(scene, job, job.order, held);
         if pair == Pair::Sme && scene.chance.percent(40) {
             hold_excluding(scene, job, Pair::Dme);
         }
     }
-}
-
-/// The subject of the job has the task in the order.
-fn hold(scene: &mut Scene, job: &Job, held: usize) {
-    scene.book.orders[job.order].put(held);
-    scene.book.cells[job.order][held] = Cell { role: Some(job.role), subject: Some(job.subject) };
 }

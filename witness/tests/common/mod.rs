@@ -24,7 +24,7 @@ pub fn ask(words: &mut [u64], kind: u64, a: u64, b: u64, c: u64) -> Answer {
 /// Asks each of these in turn; all have to be accepted.
 pub fn accept(words: &mut [u64], asks: &[(u64, u64, u64, u64)]) {
     for &(kind, a, b, c) in asks {
-        assert_eq!(ask(words, kind, a, b, c), (0, 0, 0), "kind {kind} with {a}, {b}, {c}");
+        assert_eq!(ask(words, kind, a, b, c), (0, 0, 0, 0), "kind {kind} with {a}, {b}, {c}");
     }
 }
 
