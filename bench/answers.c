@@ -39,7 +39,10 @@ static void put(u64 *book, u64 *twin, request q, u64 answer[4])
     differing += !same_answer(answer, told) || !same_words(book, twin, 0, WORDS);
 }
 
-/* The other program's book is document 01's: there kind 10 sets an active word, which since M-101 it does not. */
+/*
+ * The other program's book is document 01's: there kind 10 sets an active word, which since M-101 it does not. Its audit asks less in rule
+ * 9, so a book that passes ours passes it as well, and one with a bad word is told alike: the books here are no others.
+ */
 static void put_beside(request q, const u64 answer[4])
 {
     u64 told[4];

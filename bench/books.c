@@ -9,7 +9,7 @@ typedef uint64_t u64;
 const char *const book_names[BOOKS] = {"B", "cell", "dense", "long"};
 const char *const book_tells[BOOKS] = {
     "book B of document 01, order 0 open with two of its tasks allocated",
-    "a typical cell: 20 tasks, 8 roles, 12 subjects, 6 open orders with two tasks in three allocated",
+    "a typical cell: 20 tasks, 8 roles, 12 subjects, 6 open orders with two tasks in three allocated, most people in several of them",
     "64 of everything, rows nearly as full as the audit allows, 64 orders of all tasks, allocated but for 16 tasks of order 0",
     "64 of everything, one chain of 64 roles and one of 63 tasks, 64 orders of all tasks, allocated but for order 0"};
 
@@ -90,22 +90,35 @@ static void book_cell(void)
     step(GIVE_ROLE, 3, 1, 0);
 }
 
-/* One changes the line in the midst of an order, with a task in hand that excludes one there; one acts in a role that was taken back. */
+/* One in `role` gets a task of an order and then changes the line, with that task in hand: it excludes one there, in whatever order. */
+static void change_line(u64 subject, u64 role, u64 new_role, u64 task, u64 order)
+{
+    step(ALLOCATE, task, order, subject);
+    step(TAKE_ROLE, role, subject, 0);
+    staff(new_role, subject);
+}
+
+/*
+ * Two change the line, one with a task of the first order in hand and one with a task of the last: what is in the way is found at once, or
+ * when all orders were looked through. One holds a task that excludes another in its own order alone; one acts in a role that was taken
+ * back.
+ */
 static void change_shift(void)
 {
-    step(ALLOCATE, 18, 0, 6);
-    step(TAKE_ROLE, 6, 6, 0);
-    staff(7, 6);
+    change_line(6, 6, 7, 18, 0);
+    change_line(7, 7, 6, 19, 5);
+    step(ALLOCATE, 13, 3, 9);
     step(TAKE_ROLE, 5, 5, 0);
 }
 
+/* Each order is offered to the people from two further on, so that most of them work in several orders. */
 static void orders_cell(void)
 {
     for (u64 p = 0; p < 6; p++) {
-        step(OPEN, p, 0, p % 2 ? 0x0ffff : 0xfffff);
+        step(OPEN, p, 0, p % 2 ? 0xcffff : 0xfffff);
         for (u64 t = 0; t < 12; t++)
             for (u64 s = 0; s < 12; s++)
-                if (ask(ALLOCATE, t, p, (s + p) % 12)) break;
+                if (ask(ALLOCATE, t, p, (s + 2 * p) % 12)) break;
     }
     change_shift();
 }
@@ -133,12 +146,23 @@ static void book_dense(void)
     }
 }
 
+/* One of the upper half goes to the lower one, with all that it holds. */
+static void change_half(u64 subject)
+{
+    for (u64 r = 32; r < 64; r++) step(TAKE_ROLE, r, subject, 0);
+    staff(31, subject);
+}
+
+/* Each subject has one block of its half in two orders, and the other block in the two before. Of the two who change the half one holds
+ * tasks of the first order, and one of the last four alone. */
 static void orders_dense(void)
 {
     for (u64 p = 0; p < 64; p++) {
         step(OPEN, p, 0, UINT64_MAX);
-        for (u64 t = p ? 0 : 16; t < 64; t += 16) step(ALLOCATE, t, p, t / 32 * 32 + (p + t / 16) % 32);
+        for (u64 t = p ? 0 : 16; t < 64; t += 16) step(ALLOCATE, t, p, t / 32 * 32 + (p / 2 + t / 16 % 2) % 32);
     }
+    change_half(32);
+    change_half(63);
 }
 
 /* ---- long chains: each role has the next lower one as its only junior, each subject the highest; the last task stands alone */

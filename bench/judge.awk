@@ -84,7 +84,7 @@ function found_on(n, key, part,  row) {
     if (asked[n] == "request") return row == "audit" ? 0 : over(key, LIBRARY, PLAIN)
     if (asked[n] == "audit") return row == "audit" ? over(key, LIBRARY, PLAIN) : 0
     if (asked[n] == "refusal") return part[5] >= 2 && part[5] <= 4 ? least[key, LIBRARY] / reading : 0
-    return asked[n] == "plain" ? over(key, PLAIN, OTHER) : 0
+    return asked[n] == "plain" && row != "audit" ? over(key, PLAIN, OTHER) : 0
 }
 
 function path_name(part) {

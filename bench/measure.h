@@ -18,7 +18,10 @@ enum { LIBRARY, PLAIN, AGAIN, OTHER, PROGRAMS };
 
 int is_there(int program);
 
-/* The other program is document 01's book, and takes the kinds from 18 on for unknown ones. */
+/*
+ * The other program is document 01's book. It takes the kinds from 18 on for unknown ones, and its kind 13 looks at one order alone, where
+ * ours goes through all open orders since M-104 and names one: neither its answers nor its times are of the same thing.
+ */
 int knows(int program, u64 kind);
 void call(int program, u64 *book, request q, u64 answer[4]);
 

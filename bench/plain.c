@@ -1,7 +1,7 @@
 /*
- * The duty book in plain C, written by hand from document 01 with M-100 and M-101: sets are masks, a loop visits only the members of a
- * mask, a closure reads each row once, and what the answer does not need is not looked for. It proves nothing; bench/run holds the library
- * to its answers and to its speed.
+ * The duty book in plain C, written by hand from document 01 with M-100, M-101 and M-104: sets are masks, a loop visits only the members of
+ * a mask, a closure reads each row once, and what the answer does not need is not looked for. It proves nothing; bench/run holds the
+ * library to its answers and to its speed.
  */
 #include "plain.h"
 
@@ -23,13 +23,16 @@ enum {
 };
 
 typedef uint64_t u64;
-typedef struct { u64 number, x, y; } reply;
+typedef struct { u64 number, x, y, z; } reply;
 
-static reply say(u64 number, u64 x, u64 y)
+/* what is said of an order, z */
+static reply say_of(u64 number, u64 x, u64 y, u64 z)
 {
-    reply r = {number, x, y};
+    reply r = {number, x, y, z};
     return r;
 }
+
+static reply say(u64 number, u64 x, u64 y) { return say_of(number, x, y, 0); }
 
 static u64 one(u64 i) { return (u64)1 << i; }
 static int has(u64 set, u64 i) { return set >> i & 1; }
@@ -247,11 +250,11 @@ static reply binding_conflict(const u64 *book, u64 kind, u64 a, u64 b)
     return pair_between(book, 28, DME, subject_group(book, a), subject_group(book, b));
 }
 
-/* the lowest owned task that is SME to a gained one, or 64 */
-static u64 clash(const u64 *book, u64 owned, u64 gain)
+/* the lowest task of a set that excludes one of the others by a table, or 64 */
+static u64 clash(const u64 *book, u64 table, u64 tasks, u64 others)
 {
-    for (u64 left = owned, t; take(&left, &t);)
-        if (book[SME + t] & gain) return t;
+    for (u64 left = tasks, t; take(&left, &t);)
+        if (book[table + t] & others) return t;
     return 64;
 }
 
@@ -261,7 +264,7 @@ static reply owner_clash(const u64 *book, u64 number, u64 b, u64 gain)
     for (u64 left = book[number == 31 ? ROLES : SUBJECTS], o; take(&left, &o);) {
         u64 roles = below(book, number == 31 ? one(o) : book[ROLES_OF + o]);
         if (!has(roles, b)) continue;
-        u64 t = clash(book, tasks_of(book, roles), gain);
+        u64 t = clash(book, SME, tasks_of(book, roles), gain);
         if (t < 64) return say(number, o, t);
     }
     return say(0, 0, 0);
@@ -286,7 +289,7 @@ static reply conflict(const u64 *book, u64 kind, u64 a, u64 b)
         if (has(reach(book, a), b)) return say(30, 0, 0);
         return gain_conflict(book, b, owned_tasks(book, one(a)));
     case 10:
-        t = clash(book, owned_tasks(book, book[ROLES_OF + b]), owned_tasks(book, one(a)));
+        t = clash(book, SME, owned_tasks(book, book[ROLES_OF + b]), owned_tasks(book, one(a)));
         return t < 64 ? say(32, b, t) : say(0, 0, 0);
     default: return say(0, 0, 0);
     }
@@ -336,15 +339,48 @@ static reply hand_fault(const u64 *book, u64 cell, u64 c)
     return say(0, 0, 0);
 }
 
+/* the tasks of a set that exclude one of the hand by a table: whoever holds one of them cannot get the hand */
+static u64 excluding(const u64 *book, u64 table, u64 tasks, u64 hand)
+{
+    u64 set = 0;
+    for (u64 left = tasks, t; take(&left, &t);)
+        if (book[table + t] & hand) set |= one(t);
+    return set;
+}
+
+/* the conflict with the lowest task of a set that subject c holds in order p */
+static reply held_conflict(const u64 *book, u64 number, u64 table, u64 set, u64 hand, u64 p, u64 c)
+{
+    for (u64 left = set, x; take(&left, &x);)
+        if ((book[CELLS + 64 * p + x] & 127) == c + 1) return say_of(number, x, lowest(book[table + x] & hand), p);
+    return say(0, 0, 0);
+}
+
+/* 33: what excludes the hand is the same in every order, so it is found once, and mostly there is nothing to look for */
+static reply static_conflict(const u64 *book, u64 hand, u64 c)
+{
+    u64 rivals = excluding(book, SME, book[TASKS], hand);
+    if (rivals == 0) return say(0, 0, 0);
+    for (u64 p = 0; p < 64; p++) {
+        reply r = held_conflict(book, 33, SME, book[ORDERS + p] & rivals, hand, p, c);
+        if (r.number) return r;
+    }
+    return say(0, 0, 0);
+}
+
+/* 34, in order b alone */
+static reply dynamic_conflict(const u64 *book, u64 hand, u64 b, u64 c)
+{
+    return held_conflict(book, 34, DME, excluding(book, DME, book[ORDERS + b], hand), hand, b, c);
+}
+
 /* 11, then the conflicts 33 and 34 */
 static reply share_fault(const u64 *book, share given, u64 b, u64 c)
 {
-    u64 held = 0, unowned = given.roles & ~owned_tasks(book, one(book[ACTIVE + c] - 1));
+    u64 unowned = given.roles & ~owned_tasks(book, one(book[ACTIVE + c] - 1));
     if (unowned) return say(11, lowest(unowned), 0);
-    for (u64 left = book[ORDERS + b], t; take(&left, &t);)
-        if ((book[CELLS + 64 * b + t] & 127) == c + 1) held |= one(t);
-    reply r = pair_between(book, 33, SME, held, given.subjects);
-    return r.number ? r : pair_between(book, 34, DME, held, given.subjects);
+    reply r = static_conflict(book, given.subjects, c);
+    return r.number ? r : dynamic_conflict(book, given.subjects, b, c);
 }
 
 static reply allocate(u64 *book, u64 a, u64 b, u64 c)
@@ -404,20 +440,43 @@ static int owns_excluding(const u64 *book, int rule)
 {
     for (u64 left = book[rule == 7 ? ROLES : SUBJECTS], o; take(&left, &o);) {
         u64 owned = owned_tasks(book, rule == 7 ? one(o) : book[ROLES_OF + o]);
-        if (clash(book, owned, owned) < 64) return 1;
+        if (clash(book, SME, owned, owned) < 64) return 1;
     }
     return 0;
 }
 
-/* rule 9, in one order */
-static int hands_meet(const u64 *book, const u64 *cells, u64 tasks)
+/* Adds the tasks of an order to what each subject holds, and returns the subjects that hold one. */
+static u64 gather(u64 held[64], const u64 *cells, u64 tasks)
 {
-    for (u64 left = tasks, u; take(&left, &u);) {
-        u64 s = cells[u] & 127;
+    u64 holders = 0;
+    for (u64 left = tasks, t; take(&left, &t);) {
+        u64 s = cells[t] & 127;
         if (s == 0) continue;
-        for (u64 excluded = (book[SME + u] | book[DME + u]) & tasks, v; take(&excluded, &v);)
-            if ((cells[v] & 127) == s) return 1;
+        held[s - 1] |= one(t);
+        holders |= one(s - 1);
     }
+    return holders;
+}
+
+/*
+ * Rule 9 by what each subject holds: in one order for DME, in all of them together for SME. Only those who hold something are looked at,
+ * and what they hold in one order is cleared for the next one. Nobody who is undefined holds anything, so their words are never read.
+ */
+static int holds_excluding(const u64 *book)
+{
+    u64 here[64], anywhere[64], everyone = 0, s;
+    for (u64 left = book[SUBJECTS]; take(&left, &s);) here[s] = anywhere[s] = 0;
+    for (u64 p = 0; p < 64; p++) {
+        u64 holders = gather(here, book + CELLS + 64 * p, book[ORDERS + p]);
+        everyone |= holders;
+        while (take(&holders, &s)) {
+            if (clash(book, DME, here[s], here[s]) < 64) return 1;
+            anywhere[s] |= here[s];
+            here[s] = 0;
+        }
+    }
+    while (take(&everyone, &s))
+        if (clash(book, SME, anywhere[s], anywhere[s]) < 64) return 1;
     return 0;
 }
 
@@ -433,14 +492,11 @@ static int hands_part(const u64 *book, const u64 *cells, u64 tasks)
     return 0;
 }
 
-/* rules 9 and 10, order by order and task by task, as document 01 words them */
-static int order_rule_broken(const u64 *book, int rule)
+/* rule 10, order by order and task by task, as document 01 words it */
+static int bound_apart(const u64 *book)
 {
-    for (u64 p = 0; p < 64; p++) {
-        u64 tasks = book[ORDERS + p];
-        const u64 *cells = book + CELLS + 64 * p;
-        if (tasks && (rule == 9 ? hands_meet(book, cells, tasks) : hands_part(book, cells, tasks))) return 1;
-    }
+    for (u64 p = 0; p < 64; p++)
+        if (hands_part(book, book + CELLS + 64 * p, book[ORDERS + p])) return 1;
     return 0;
 }
 
@@ -452,7 +508,8 @@ static int broken(const u64 *book, int rule)
     case 3: case 4: case 5: return bound_and_excluded(book, rule);
     case 6: return reaches_itself(book);
     case 7: case 8: return owns_excluding(book, rule);
-    default: return order_rule_broken(book, rule);
+    case 9: return holds_excluding(book);
+    default: return bound_apart(book);
     }
 }
 
@@ -493,7 +550,7 @@ static void put(u64 answer[4], reply r)
     answer[0] = r.number;
     answer[1] = r.x;
     answer[2] = r.y;
-    answer[3] = 0;
+    answer[3] = r.z;
 }
 
 void plain_request(u64 *book, size_t words, u64 kind, u64 a, u64 b, u64 c, u64 answer[4])

@@ -13,7 +13,7 @@ __attribute__((weak)) void limit_audit(const u64 *book, size_t words, u64 answer
 
 int is_there(int program) { return program != OTHER || (limit_request && limit_audit); }
 
-int knows(int program, u64 kind) { return program != OTHER || kind <= 17 || kind > LAST_KIND; }
+int knows(int program, u64 kind) { return program != OTHER || (kind <= 17 && kind != 13) || kind > LAST_KIND; }
 
 static inline __attribute__((always_inline)) void put(int program, u64 *book, request q, u64 answer[4])
 {

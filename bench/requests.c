@@ -30,11 +30,11 @@ int form_for(u64 kind) { return (kind >= 4 && kind <= 7) || (kind >= 18 && kind 
 
 /* ---- some hundreds of each kind */
 
-enum { NUMBERS = 19, NEEDS_NO_ORDER = 7 };
+enum { NUMBERS = 20, NEEDS_NO_ORDER = 7 };
 
-/* what a, b and c are tried with: the roles of the cell, the ends of each block of the books, two tasks of the cell that are SME, and
- * two numbers that are out of range */
-static const u64 numbers[NUMBERS] = {0, 1, 2, 3, 4, 5, 6, 7, 15, 16, 31, 32, 47, 62, 63, 18, 19, 64, UINT64_MAX};
+/* what a, b and c are tried with: the roles of the cell, the ends of each block of the books, two tasks of the cell that are SME, one of
+ * its people who did not change the line, and two numbers that are out of range */
+static const u64 numbers[NUMBERS] = {0, 1, 2, 3, 4, 5, 6, 7, 15, 16, 31, 32, 47, 62, 63, 18, 19, 9, 64, UINT64_MAX};
 
 int tried(request *q, u64 kind, int i)
 {
@@ -49,8 +49,20 @@ int tried(request *q, u64 kind, int i)
 
 /* ---- paths */
 
+enum { SME = 4 };
+
 static path soonest[NUMBERS_OF_A_KIND], furthest[NUMBERS_OF_A_KIND];
 static int numbers_given;
+
+/*
+ * How far the search went that ended with this answer: by orders, then by x, then by y. An accepted request found nothing; one of kind 13
+ * goes further where its task is SME to another, since all open orders are looked through then.
+ */
+static u64 found_at(request q, const u64 *book, const u64 answer[4])
+{
+    if (answer[0] == 0) return q.kind == 13 && book[SME + q.a] != 0;
+    return 64 * (64 * answer[3] + answer[1]) + answer[2];
+}
 
 /* the path that a request goes by plain C, on scratch, which is as the book again afterwards */
 static path path_of(request q, int n, int form)
@@ -58,7 +70,7 @@ static path path_of(request q, int n, int form)
     u64 answer[4];
     call(PLAIN, scratch, q, answer);
     if (answer[0] == 0) copy_words(scratch, books[n][form]);
-    return (path){q, form, answer[0], 64 * answer[1] + answer[2]};
+    return (path){q, form, answer[0], found_at(q, books[n][form], answer)};
 }
 
 static void note(path p)

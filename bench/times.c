@@ -130,10 +130,10 @@ static void print_kind(u64 kind, int n)
     for (int i = 0; i < count; i++) print_path("path", book_names[n], books[n][paths[i].form], paths[i]);
 }
 
-/* What is asked of a damaged book is all one, so one kind stands for all. */
+/* What is asked of a damaged book is all one, so one kind stands for all, one that the other program knows. */
 static void print_damaged(int n)
 {
-    print_path("path", book_names[n], books[n][DAMAGED], (path){{13, 0, 0, 0}, DAMAGED, 2, 0});
+    print_path("path", book_names[n], books[n][DAMAGED], (path){{1, 0, 0, 0}, DAMAGED, 2, 0});
     print_path("path", book_names[n], books[n][DAMAGED], (path){{AUDIT, 0, 0, 0}, DAMAGED, 2, 0});
 }
 
