@@ -9,10 +9,10 @@
  * no copy and no state of its own between calls: the book is all there is.
  *
  * WHAT IS PROVED, for every call whose pointers are as asked below: the four words of the answer and every word of the book
- * afterwards are those of document 01 with change requests M-100 (kinds 18 to 21) and M-101 (kind 10 makes no role active), whatever
- * the words, the count, the kind and the numbers are. Nothing is asked of their values. A damaged book, a wrong count, an unknown kind,
- * numbers out of range: each has its own answer. The number 0 is told of an accepted request, and of an audit that finds nothing, and of
- * nothing else.
+ * afterwards are those of document 01 with change requests M-100 (kinds 18 to 21), M-101 (kind 10 makes no role active) and M-104 (an
+ * SME is kept over all open orders together, and 33 and 34 name the order), whatever the words, the count, the kind and the numbers
+ * are. Nothing is asked of their values. A damaged book, a wrong count, an unknown kind, numbers out of range: each has its own answer.
+ * The number 0 is told of an accepted request, and of an audit that finds nothing, and of nothing else.
  *
  * Of several requests, proved as well (change request M-102) of a book whose audit answers 0: a list of requests of kinds 4 to 10 that is
  * accepted one after the other is accepted in every other order too, and the book is the same in every word afterwards; so it does not
@@ -59,9 +59,9 @@
 #include <stdint.h>
 
 /* The version of the book and of this library; CHANGELOG.md says when which number moves. */
-#define TOWERPLANK_VERSION_MAJOR 2
+#define TOWERPLANK_VERSION_MAJOR 3
 #define TOWERPLANK_VERSION_MINOR 0
-#define TOWERPLANK_VERSION_PATCH 2
+#define TOWERPLANK_VERSION_PATCH 0
 
 /* The same as one number, for #if, and as text. */
 #define TOWERPLANK_VERSION_NUMBER (10000 * TOWERPLANK_VERSION_MAJOR + 100 * TOWERPLANK_VERSION_MINOR + TOWERPLANK_VERSION_PATCH)
@@ -107,7 +107,7 @@
     ROW(21, TAKE_SB, "take back the binding of task a and task b to one person (SB)")
 
 /*
- * The answers to a request: number, name, and what it says. x and y are the answer's further numbers; tasks, a role and a person
+ * The answers to a request: number, name, and what it says. x, y and z are the answer's further numbers; tasks, a role and a person
  * without a letter are those of the request.
  */
 #define TOWERPLANK_ANSWERS(ROW) \
@@ -136,8 +136,8 @@
     ROW(30, CYCLE, "the roles would run in a circle") \
     ROW(31, TASK_ASSIGNMENT, "role x owns task y, which excludes a task that it would gain (SME)") \
     ROW(32, ROLE_ASSIGNMENT, "person x owns task y, which excludes a task that they would gain (SME)") \
-    ROW(33, HOLDS_SME, "the person already holds task x of the order, which excludes task y (SME)") \
-    ROW(34, HOLDS_DME, "the person already holds task x of the order, which excludes task y within an order (DME)")
+    ROW(33, HOLDS_SME, "the person already holds task x in order z, which excludes task y in every open order (SME)") \
+    ROW(34, HOLDS_DME, "the person already holds task x in order z, which excludes task y within an order (DME)")
 
 /* The rules of the audit: the number n of the rule, and what is so where it is broken. The audit answers 40 + n. */
 #define TOWERPLANK_RULES(ROW) \
@@ -149,7 +149,7 @@
     ROW(6, "a role is above itself") \
     ROW(7, "a role owns both tasks of an SME pair") \
     ROW(8, "a person owns both tasks of an SME pair") \
-    ROW(9, "in an open order one person holds two tasks that exclude each other") \
+    ROW(9, "one person holds two tasks that exclude each other, in any open orders (SME) or in one (DME)") \
     ROW(10, "in an open order bound tasks are in different hands or roles")
 
 /* What is made of a row of these lists: an enumerator, a case with its text, one more in a count. */
@@ -179,8 +179,8 @@ extern "C" {
 
 /*
  * One request. `kind` is one of enum towerplank_kind; a, b and c are its numbers, and those that a kind doesn't use are ignored.
- * answer[0] is the number (0: accepted, and the book is changed), answer[1] is x, answer[2] is y, each 0 where nothing is said;
- * answer[3] is 0 today. All four are written at every call.
+ * answer[0] is the number (0: accepted, and the book is changed), answer[1] is x, answer[2] is y and answer[3] is z, each 0 where
+ * nothing is said; z is said by HOLDS_SME and HOLDS_DME alone, and may be order 0 there. All four are written at every call.
  */
 void towerplank_request(uint64_t *book, size_t words, uint64_t kind, uint64_t a, uint64_t b, uint64_t c, uint64_t answer[4]);
 

@@ -50,8 +50,8 @@ passes_over() { # ROOM
     printf '%s\n' 'n 4701' 'n 4676' 'w 4676 1' 'r 1 0 0' 'r 1 5 0 0' 'r  1 5 0 0' 'a 1' '' 'r 1 5 0 18446744073709551616' 'a' >"$1/lines"
     printf 'r 1 6 %01000d 0\nr 1 6 0 0' 0 >>"$1/lines"
     {
-        printf '%s\n' '? n 4701' '? w 4676 1' '? r 1 0 0' 'r 0 0 0 0 32' '? r  1 5 0 0' '? a 1' '? ' '? r 1 5 0 18446744073709551616' 'a 0 0 0'
-        printf '? r 1 6 %0250d\nr 0 0 0 0 96\n' 0
+        printf '%s\n' '? n 4701' '? w 4676 1' '? r 1 0 0' 'r 0 0 0 0 0 32' '? r  1 5 0 0' '? a 1' '? ' '? r 1 5 0 18446744073709551616' 'a 0 0 0'
+        printf '? r 1 6 %0250d\nr 0 0 0 0 0 96\n' 0
     } >"$1/told"
     tools/run-program target/bin/replay <"$1/lines" | cmp - "$1/told"
 }

@@ -167,7 +167,7 @@ panel_words() {
         END { for (word in number) if (!(word in left)) { print "not played: " word >"/dev/stderr"; exit 1 } }' "$room/lists" "$room/words" >"$room/numbers" &&
         tools/run-program target/bin/panel <"$room/words" >"$room/by-word" &&
         tools/run-program target/bin/panel <"$room/numbers" >"$room/by-number" &&
-        [ "$(grep -c '^[0-9]*: 0 0 0  accepted' "$room/by-word")" -eq "$(wc -l <"$room/words")" ] &&
+        [ "$(grep -c '^[0-9]*: 0 0 0 0  accepted' "$room/by-word")" -eq "$(wc -l <"$room/words")" ] &&
         diff "$room/by-word" "$room/by-number"
 }
 holds "the header's names are the panel's words, and mean the same kinds" panel_words

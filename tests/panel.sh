@@ -142,17 +142,17 @@ says() { # SENTENCE SHIFT EXPECTED: what is printed for the shift, the audit at 
 }
 
 says "define-person and define-subject are one" 'define-person 1\ndefine-subject 1' \
-    '1: 0 0 0  accepted: person 1 is defined\n2: 5 0 0  refused: person 1 is already defined'
+    '1: 0 0 0 0  accepted: person 1 is defined\n2: 5 0 0 0  refused: person 1 is already defined'
 says "the long words of exclusions and bindings are known" \
     'define-task 0\ndefine-task 1\nexclude-static 0 0\nexclude-dynamic 0 0\nbind-role 0 1\nbind-subject 0 1' \
-    "1: 0 0 0  accepted: task 0 is defined\n2: 0 0 0  accepted: task 1 is defined
-3: 20 0 0  conflict: task 0 can neither exclude nor be bound to itself; to resolve: name two different tasks
-4: 20 0 0  conflict: task 0 can neither exclude nor be bound to itself; to resolve: name two different tasks
-5: 0 0 0  accepted: in one order, task 0 and task 1 are done in one role (RB)
-6: 0 0 0  accepted: in one order, task 0 and task 1 are done by one person (SB)"
-says "a byte order mark at the start is passed over" '\xef\xbb\xbfdefine-task 0\n' '1: 0 0 0  accepted: task 0 is defined'
+    "1: 0 0 0 0  accepted: task 0 is defined\n2: 0 0 0 0  accepted: task 1 is defined
+3: 20 0 0 0  conflict: task 0 can neither exclude nor be bound to itself; to resolve: name two different tasks
+4: 20 0 0 0  conflict: task 0 can neither exclude nor be bound to itself; to resolve: name two different tasks
+5: 0 0 0 0  accepted: in one order, task 0 and task 1 are done in one role (RB)
+6: 0 0 0 0  accepted: in one order, task 0 and task 1 are done by one person (SB)"
+says "a byte order mark at the start is passed over" '\xef\xbb\xbfdefine-task 0\n' '1: 0 0 0 0  accepted: task 0 is defined'
 says "blanks, tabs, carriage returns and comments part words or end the line" '\tdefine-task \t 0\r\n  # nothing\n\ndefine-task 1#2\n' \
-    '1: 0 0 0  accepted: task 0 is defined\n4: 0 0 0  accepted: task 1 is defined'
+    '1: 0 0 0 0  accepted: task 0 is defined\n4: 0 0 0 0  accepted: task 1 is defined'
 
 says "an unknown word is told with the nearest" 'alocate 0 0 0' "1: no request: 'alocate' is no kind of request; did you mean allocate?"
 says "help on a word that the panel does not know" 'help alocate\nhelp 13' \
@@ -165,17 +165,17 @@ says "names stand for numbers in all four sorts" \
     'name task 0 wake\nname role 1 hand\nname person 2 otto\nname order 3 morning\ndefine-task wake\ndefine-role hand\ndefine-person otto
 assign-task wake hand\nassign-role hand otto\nactivate hand otto\nopen morning tasks wake\nallocate wake morning otto\nallocate 0 3 2' \
     '1: task 0 is called wake\n2: role 1 is called hand\n3: person 2 is called otto\n4: order 3 is called morning
-5: 0 0 0  accepted: task 0 (wake) is defined\n6: 0 0 0  accepted: role 1 (hand) is defined
-7: 0 0 0  accepted: person 2 (otto) is defined\n8: 0 0 0  accepted: role 1 (hand) has task 0 (wake)
-9: 0 0 0  accepted: person 2 (otto) has role 1 (hand)\n10: 0 0 0  accepted: person 2 (otto) now acts in role 1 (hand)
-11: 0 0 0  accepted: order 3 (morning) is open, with tasks 0 (wake)
-12: 0 0 0  accepted: person 2 (otto) does task 0 (wake) in order 3 (morning), and what is bound to it
-13: 9 2 0  refused: task 0 (wake) of order 3 (morning) is in the hands of person 2 (otto); to resolve: leave it with them, or close '\
+5: 0 0 0 0  accepted: task 0 (wake) is defined\n6: 0 0 0 0  accepted: role 1 (hand) is defined
+7: 0 0 0 0  accepted: person 2 (otto) is defined\n8: 0 0 0 0  accepted: role 1 (hand) has task 0 (wake)
+9: 0 0 0 0  accepted: person 2 (otto) has role 1 (hand)\n10: 0 0 0 0  accepted: person 2 (otto) now acts in role 1 (hand)
+11: 0 0 0 0  accepted: order 3 (morning) is open, with tasks 0 (wake)
+12: 0 0 0 0  accepted: person 2 (otto) does task 0 (wake) in order 3 (morning), and what is bound to it
+13: 9 2 0 0  refused: task 0 (wake) of order 3 (morning) is in the hands of person 2 (otto); to resolve: leave it with them, or close '\
 'the order and open it anew'
 says "a name given anew replaces the old one" 'name task 0 wake\nname task wake start\ndefine-task start\nname task 0 start' \
-    '1: task 0 is called wake\n2: task 0 is called start\n3: 0 0 0  accepted: task 0 (start) is defined\n4: task 0 is called start'
+    '1: task 0 is called wake\n2: task 0 is called start\n3: 0 0 0 0  accepted: task 0 (start) is defined\n4: task 0 is called start'
 says "one name may stand in two sorts" 'name task 0 wake\nname role 0 wake\ndefine-role wake' \
-    '1: task 0 is called wake\n2: role 0 is called wake\n3: 0 0 0  accepted: role 0 (wake) is defined'
+    '1: task 0 is called wake\n2: role 0 is called wake\n3: 0 0 0 0  accepted: role 0 (wake) is defined'
 
 for sort in task role person order; do
     says "a name of a $sort that is taken, unknown or none is told" \
@@ -189,12 +189,12 @@ says "subject is another word for person" 'name subject 0 otto\nname person otto
     '1: person 0 is called otto\n2: person 0 is called ida\n3: there is no person 0 (ida)'
 
 says "open takes tasks one by one, or a mask" 'define-task 0\ndefine-task 2\nopen 0 tasks 2 0 2\nopen 1 5' \
-    '1: 0 0 0  accepted: task 0 is defined\n2: 0 0 0  accepted: task 2 is defined
-3: 0 0 0  accepted: order 0 is open, with tasks 0 2\n4: 0 0 0  accepted: order 1 is open, with tasks 0 2'
+    '1: 0 0 0 0  accepted: task 0 is defined\n2: 0 0 0 0  accepted: task 2 is defined
+3: 0 0 0 0  accepted: order 0 is open, with tasks 0 2\n4: 0 0 0 0  accepted: order 1 is open, with tasks 0 2'
 says "try changes nothing" 'try define-task 0\ndefine-task 0\ntry define-task 0\ntry' \
-    '1: 0 0 0  tried, the book is as it was: accepted: task 0 is defined\n2: 0 0 0  accepted: task 0 is defined
-3: 5 0 0  tried, the book is as it was: refused: task 0 is already defined\n4: no request: word 2 is missing'
-says "quit ends the shift" 'define-task 0\nquit\ndefine-task 1' '1: 0 0 0  accepted: task 0 is defined'
+    '1: 0 0 0 0  tried, the book is as it was: accepted: task 0 is defined\n2: 0 0 0 0  accepted: task 0 is defined
+3: 5 0 0 0  tried, the book is as it was: refused: task 0 is already defined\n4: no request: word 2 is missing'
+says "quit ends the shift" 'define-task 0\nquit\ndefine-task 1' '1: 0 0 0 0  accepted: task 0 is defined'
 
 # An allocation for a person who acts in no role that they own now: what is said goes by how they stand.
 printf '%b' 'name role 0 hand\nname person 63 otto\ndefine-task 2\ndefine-role 0\ndefine-role 5\ndefine-person 63\nassign-task 2 0\nopen 3 4
@@ -202,13 +202,26 @@ allocate 2 3 63\nassign-role 0 63\ntry allocate 2 3 63\nactivate 0 63\nassign-ro
 take-role 5 63\nallocate 2 3 63\n' >"$room/stands"
 tells_standing() {
     panel <"$room/stands" | grep ': 8 ' >"$room/out"
-    printf '%s\n' '9: 8 0 0  refused: person 63 (otto) has no role; assign one to them and activate it first' \
-        '11: 8 0 0  tried, the book is as it was: refused: person 63 (otto) acts in no role; activate one of theirs first' \
-        '15: 8 0 0  refused: person 63 (otto) acts in role 0 (hand), which they do not own now; activate one of theirs first' \
-        '17: 8 0 0  refused: person 63 (otto) acts in role 0 (hand), which they do not own now; assign that role or a senior of it to them '\
+    printf '%s\n' '9: 8 0 0 0  refused: person 63 (otto) has no role; assign one to them and activate it first' \
+        '11: 8 0 0 0  tried, the book is as it was: refused: person 63 (otto) acts in no role; activate one of theirs first' \
+        '15: 8 0 0 0  refused: person 63 (otto) acts in role 0 (hand), which they do not own now; activate one of theirs first' \
+        '17: 8 0 0 0  refused: person 63 (otto) acts in role 0 (hand), which they do not own now; assign that role or a senior of it to them '\
 'first, or another role and activate it' | cmp - "$room/out"
 }
 holds "8 of an allocation is told by how the person stands" tells_standing
+
+# Who holds the one task of an SME pair is told the lowest order of it, by number and by name, in whatever order the other is asked for.
+printf '%b' 'name order 5 late\ndefine-task 0\ndefine-task 1\ndefine-role 0\ndefine-role 1\ndefine-person 2\nsme 0 1\nassign-task 0 0\nassign-task 1 1
+assign-role 0 2\nactivate 0 2\nopen 63 1\nopen 5 1\nopen 4 2\nallocate 0 63 2\nallocate 0 5 2\ntake-role 0 2\nassign-role 1 2\nactivate 1 2
+allocate 1 4 2\nclose 5\nallocate 1 4 2\n' >"$room/holds"
+tells_order() {
+    panel <"$room/holds" | grep ': 33 ' >"$room/out"
+    sentence='%s  conflict: person 2 already holds task 0 in order %s, which excludes task 1 in every open order (SME); to resolve: give task 1 '\
+'to someone else, or close order %s and, if it is opened anew, give task 0 there to someone else\n'
+    # shellcheck disable=SC2059
+    printf "$sentence" '20: 33 0 1 5' '5 (late)' '5 (late)' '22: 33 0 1 63' 63 63 | cmp - "$room/out"
+}
+holds "33 is told with the order that stands in the way" tells_order
 
 lists_every_word() {
     printf 'help\n' | panel >"$room/help" || return 1
@@ -287,12 +300,18 @@ json_agrees() { # SHIFT
 }
 for shift in shifts/*.txt; do holds "the shift $(basename "$shift" .txt) as JSON has the same facts" json_agrees "$shift"; done
 holds "8 of an allocation as JSON has the same facts" json_agrees "$room/stands"
+holds "33 over several orders as JSON has the same facts" json_agrees "$room/holds"
 printf 'define-task 0\n"\\\x01\xff\xc3\xa9\x7f" 1\nname task 0 "x\\\n%0200d\n' 0 >"$room/bytes"
 holds "bytes of every sort break no JSON" json_agrees "$room/bytes"
 sees_a_difference() {
     sed 's/accepted: task 0/accepted: task 1/' "$room/plain" >"$room/changed"
     ! tests/panel/json_agrees "$room/changed" "$room/json" 2>"$room/message" && grep -q '^plain otherwise' "$room/message"
 }
+sees_another_z() {
+    sed 's/"z":0,/"z":1,/' "$room/json" >"$room/changed"
+    ! tests/panel/json_agrees "$room/plain" "$room/changed" 2>"$room/message" && grep -q '^z is 0 where nothing is said' "$room/message"
+}
 holds "a difference between the two would be seen" sees_a_difference
+holds ".. and a z where nothing is said" sees_another_z
 holds "on a terminal there are a greeting, prompts and an end by quit and by Ctrl-D, elsewhere none" tests/panel/terminal
 rm -rf "$room"

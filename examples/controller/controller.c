@@ -11,6 +11,7 @@
 
 enum { WAKE, SIGN, CUT, GAUGE };   /* tasks */
 enum { SEQUENCER, OFFICE, BENCH }; /* roles, and the people who start with them */
+enum { REPAIR = 2, MORNING = 3 };  /* orders */
 
 /* All zeros: a blank book. One word more on each side, to see that nothing outside is touched. */
 static uint64_t memory[TOWERPLANK_WORDS + 2];
@@ -22,27 +23,24 @@ static const uint64_t beside = 0x5ca1ab1e;
 /* The mask of one task. The one that is shifted has 64 bits: an int has too few for tasks above 30. */
 static uint64_t mask_of(uint64_t task) { return UINT64_C(1) << task; }
 
-static void print_answer(const uint64_t answer[4], const char *text)
-{
-    printf("(%" PRIu64 ", %" PRIu64 ", %" PRIu64 ") %s\n", answer[0], answer[1], answer[2], text);
-}
-
 /* Puts a request, prints the answer, and returns whether it was accepted. */
 static int ask(const char *what, uint64_t kind, uint64_t a, uint64_t b, uint64_t c)
 {
     uint64_t answer[4];
     towerplank_request(book, TOWERPLANK_WORDS, kind, a, b, c, answer);
-    printf("%s: ", what);
-    print_answer(answer, towerplank_answer_text(answer[0]));
+    printf("%s: (%" PRIu64 ", %" PRIu64 ", %" PRIu64 ", %" PRIu64 ") ", what, answer[0], answer[1], answer[2], answer[3]);
+    printf("%s\n", towerplank_answer_text(answer[0]));
+    /* The order that stands in the way may be another than the one that was asked for. */
+    if (answer[0] == TOWERPLANK_HOLDS_SME || answer[0] == TOWERPLANK_HOLDS_DME) printf("order %" PRIu64 " stands in the way\n", answer[3]);
     return answer[0] == TOWERPLANK_ACCEPTED;
 }
 
+/* The audit has no z. */
 static void audit(void)
 {
     uint64_t answer[4];
     towerplank_audit(book, TOWERPLANK_WORDS, answer);
-    printf("audit: ");
-    print_answer(answer, towerplank_finding_text(answer[0]));
+    printf("audit: (%" PRIu64 ", %" PRIu64 ", %" PRIu64 ") %s\n", answer[0], answer[1], answer[2], towerplank_finding_text(answer[0]));
 }
 
 /* What the cell is set up with: requests of kinds 4 to 10. All are accepted, so their order does not matter. */
@@ -98,22 +96,33 @@ static void run_an_order(void)
 {
     ask("the sequencer hand as office too", TOWERPLANK_ASSIGN_ROLE, OFFICE, SEQUENCER, 0);
     ask("one role for waking and signing", TOWERPLANK_ASSIGN_TASK, SIGN, SEQUENCER, 0);
-    ask("open order 0", TOWERPLANK_OPEN, 0, 0, mask_of(WAKE) | mask_of(SIGN) | mask_of(CUT) | mask_of(GAUGE));
-    if (ask("may person 0 wake?", TOWERPLANK_ALLOCATE, WAKE, 0, SEQUENCER)) printf("the sequencer is woken\n");
-    if (!ask("may person 2 sign?", TOWERPLANK_ALLOCATE, SIGN, 0, BENCH)) printf("the list is not signed\n");
-    ask("may person 2 cut?", TOWERPLANK_ALLOCATE, CUT, 0, BENCH);
-    ask("may person 2 gauge?", TOWERPLANK_ALLOCATE, GAUGE, 0, BENCH);
+    ask("open order 3", TOWERPLANK_OPEN, MORNING, 0, mask_of(WAKE) | mask_of(SIGN) | mask_of(CUT) | mask_of(GAUGE));
+    if (ask("may person 0 wake?", TOWERPLANK_ALLOCATE, WAKE, MORNING, SEQUENCER)) printf("the sequencer is woken\n");
+    if (!ask("may person 2 sign?", TOWERPLANK_ALLOCATE, SIGN, MORNING, BENCH)) printf("the list is not signed\n");
+    ask("may person 2 cut?", TOWERPLANK_ALLOCATE, CUT, MORNING, BENCH);
+    ask("may person 2 gauge?", TOWERPLANK_ALLOCATE, GAUGE, MORNING, BENCH);
     ask("a rule while the order runs", TOWERPLANK_DME, WAKE, CUT, 0);
     audit();
     ask("person 0 is sequencer hand no more", TOWERPLANK_TAKE_ROLE, SEQUENCER, SEQUENCER, 0);
     ask("and moves to the office", TOWERPLANK_ASSIGN_ROLE, OFFICE, SEQUENCER, 0);
-    ask("may person 0 sign?", TOWERPLANK_ALLOCATE, SIGN, 0, SEQUENCER);
+    ask("may person 0 sign?", TOWERPLANK_ALLOCATE, SIGN, MORNING, SEQUENCER);
     ask("person 0 acts as office", TOWERPLANK_ACTIVATE, OFFICE, SEQUENCER, 0);
-    if (!ask("may person 0 sign?", TOWERPLANK_ALLOCATE, SIGN, 0, SEQUENCER)) printf("the list is not signed\n");
-    if (ask("may person 1 sign?", TOWERPLANK_ALLOCATE, SIGN, 0, OFFICE)) printf("the list is signed\n");
+    if (!ask("may person 0 sign?", TOWERPLANK_ALLOCATE, SIGN, MORNING, SEQUENCER)) printf("the list is not signed\n");
+    if (ask("may person 1 sign?", TOWERPLANK_ALLOCATE, SIGN, MORNING, OFFICE)) printf("the list is signed\n");
     audit();
+}
+
+/* A second order while the first is open: an SME looks at all open orders together, a DME at each by itself. */
+static void run_another_beside_it(void)
+{
+    ask("open order 2", TOWERPLANK_OPEN, REPAIR, 0, mask_of(SIGN) | mask_of(GAUGE));
+    ask("may person 2 gauge in order 2?", TOWERPLANK_ALLOCATE, GAUGE, REPAIR, BENCH);
+    if (!ask("may person 0 sign in order 2?", TOWERPLANK_ALLOCATE, SIGN, REPAIR, SEQUENCER)) printf("the list is not signed\n");
     ask("who cuts may gauge from now on", TOWERPLANK_TAKE_DME, CUT, GAUGE, 0);
-    ask("close order 0", TOWERPLANK_CLOSE, 0, 0, 0);
+    ask("close order 3", TOWERPLANK_CLOSE, MORNING, 0, 0);
+    if (ask("may person 0 sign in order 2?", TOWERPLANK_ALLOCATE, SIGN, REPAIR, SEQUENCER)) printf("the list is signed\n");
+    audit();
+    ask("close order 2", TOWERPLANK_CLOSE, REPAIR, 0, 0);
     ask("who cuts may gauge from now on", TOWERPLANK_TAKE_DME, CUT, GAUGE, 0);
 }
 
@@ -167,6 +176,7 @@ int main(void)
     define_it_again();
     start_the_day();
     run_an_order();
+    run_another_beside_it();
     be_hostile();
     printf("the words beside the book are %s\n", memory[0] == beside && memory[TOWERPLANK_WORDS + 1] == beside ? "untouched" : "overwritten");
     return 0;

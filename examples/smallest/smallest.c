@@ -16,7 +16,8 @@ static void ask(uint64_t kind, uint64_t a, uint64_t b, uint64_t c)
     uint64_t answer[4];
     towerplank_request(book, TOWERPLANK_WORDS, kind, a, b, c, answer);
     printf("%s, a = %" PRIu64 ", b = %" PRIu64 ": ", towerplank_kind_text(kind), a, b);
-    printf("%" PRIu64 " %" PRIu64 " %" PRIu64 ", %s\n", answer[0], answer[1], answer[2], towerplank_answer_text(answer[0]));
+    printf("%" PRIu64 " %" PRIu64 " %" PRIu64 " %" PRIu64 ", ", answer[0], answer[1], answer[2], answer[3]);
+    printf("%s\n", towerplank_answer_text(answer[0]));
 }
 
 int main(void)

@@ -394,15 +394,18 @@ static void try_measured_books(void)
 
 /* ---- where the order matters */
 
+static void print_answer(void) { printf("%" PRIu64 " %" PRIu64 " %" PRIu64 " %" PRIu64, answer[0], answer[1], answer[2], answer[3]); }
+
 /* Plays a request and then another on a copy of the book, and prints the answers; returns how many are refused. */
 static uint32_t play_two(uint64_t *on, request one, request two)
 {
     const list first = {{one}, 1}, second = {{two}, 1};
     copy(on, book);
     uint32_t refused = play(on, &first);
-    printf("%" PRIu64 " %" PRIu64 " %" PRIu64 " and ", answer[0], answer[1], answer[2]);
+    print_answer();
+    printf(" and ");
     refused += play(on, &second);
-    printf("%" PRIu64 " %" PRIu64 " %" PRIu64, answer[0], answer[1], answer[2]);
+    print_answer();
     return refused;
 }
 
