@@ -73,7 +73,7 @@
 #define TOWERPLANK_WORDS 4676
 
 /*
- * The bytes of stack to leave for a call. It takes under 1,300 of them: no more was seen to be used (bench/run paints the stack), and
+ * The bytes of stack to leave for a call. It takes under 2,300 of them: no more was seen to be used (bench/run paints the stack), and
  * the frames of its machine code add up to no more (tools/machine-code); the rest is room, for memset too. No theorem says so: a
  * proof speaks of the language's machine. docs/PERFORMANCE.md has both numbers and how they are found.
  */

@@ -3,9 +3,10 @@
 # it breaks none. Of changes that let a person act, or stop them, it is proved that they do not meet M-101: after the trial's request,
 # which is not of kind 11, person 0 does not act in what they acted in. Of rules by which the order of clicking matters, or by which what is
 # taken back leaves a trace, it is proved that they do not meet M-102, at the book and the list of one trial (crate list_trials). Of rules
-# that are only written another way it is proved that the trial still holds. The copy has the definitions and the law that a trial is the
-# statement at its book, with the few on tests and small books that it cites, and none on the rules: those would be refused for the wording
-# alone.
+# that name something else it is proved that they do not tell what the table of M-104 does (crate examples): no demand pins what is named.
+# Of rules that are only written another way it is proved that the trial still holds. The copy has the definitions and the law that a trial
+# is the statement at its book, with the few on tests and small books that it cites, and none on the rules: those would be refused for the
+# wording alone.
 # Run by .ci/run in a shell of its own, or called alone.
 
 type holds >/dev/null 2>&1 || . "$(dirname "${BASH_SOURCE[0]}")/alone"
@@ -65,10 +66,27 @@ END
     esac
 }
 
+# .. and of the table of M-104.
+bent_table_claim() { # CLAIM
+    cat <<END
+use mathlib.Core.Bool.{not}
+use lib.Dec.{T}
+use Rattle.rules.specs.Computed.{computed}
+use Rattle.examples.specs.Examples.{allGo}
+use Rattle.examples.specs.SeveralOrders.{severalOrders}
+
+END
+    case $1 in
+    mistold) printf '%s\n' 'pub refuted : T (not (allGo severalOrders))' 'unfolding computed' 'refuted = tt' ;;
+    told) printf '%s\n' 'pub stands : T (allGo severalOrders)' 'unfolding computed' 'stands = tt' ;;
+    esac
+}
+
 # The definitions that the claim speaks of, with NEW for OLD in one file of the rules, and the claim.
 bent_copy() { # ROOM CLAIM FILE OLD NEW FAMILY TRIAL
     case $2 in
     disordered | traced | ordered | untraced) below='sets chains rules demands clicks' tried=list_trials claim=bent_list_claim gone='Tried Needed' ;;
+    mistold | told) below='sets chains rules' tried=examples claim=bent_table_claim gone='Hold OnWords' ;;
     *) below='sets chains rules demands' tried=trials claim=bent_claim gone=Tried ;;
     esac
     for crate in $below "$tried"; do
@@ -81,11 +99,12 @@ bent_copy() { # ROOM CLAIM FILE OLD NEW FAMILY TRIAL
         rm "$1/$tried/specs/$file.antt"
     done
     for file in sets/Logic rules/SaidLaws rules/SmallLaws clicks/TestLaws "$tried/Instances"; do
-        [ -d "$1/${file%/*}" ] || continue
+        [ -d "$1/${file%/*}" ] && [ -f "crates/${file%/*}/proofs/${file#*/}.antt" ] || continue
         mkdir -p "$1/${file%/*}/proofs"
         cp "crates/${file%/*}/proofs/${file#*/}.antt" "$1/${file%/*}/proofs/"
         echo "pub mod ${file#*/}" >>"$1/${file%/*}/proofs/Lib.antt"
     done
+    mkdir -p "$1/$tried/proofs"
     "$claim" "$2" "$6" "$7" >"$1/$tried/proofs/Claim.antt"
     echo 'pub mod Claim' >>"$1/$tried/proofs/Lib.antt"
     text=$(cat "$1/rules/specs/$3")
@@ -123,6 +142,9 @@ trace() { bent_start traced "$@"; }        # SENTENCE FILE OLD NEW FAMILY TRIAL
 order() { bent_start ordered "$@"; }       # SENTENCE FILE OLD NEW FAMILY TRIAL
 no_trace() { bent_start untraced "$@"; }   # SENTENCE FILE OLD NEW FAMILY TRIAL
 
+mistell() { bent_start mistold "$@" SeveralOrders severalOrders; } # SENTENCE FILE OLD NEW
+tell() { bent_start told "$@" SeveralOrders severalOrders; }       # SENTENCE FILE OLD NEW
+
 bent_shown() { # TOLD
     [ "$1" = proved ] || { echo "not proved: $1"; return 1; }
 }
@@ -156,11 +178,13 @@ bend "32 of those who have the role itself" Numbers.antt '(λ o. ownsRole d (sub
 bend "32 left out of kind 9" Numbers.antt 'taskAssignment gainedRole ∷ roleAssignment gainedRole' 'taskAssignment gainedRole' Staff subjectReaches
 bend "32 left out of kind 10" Numbers.antt 'roleConflicts = ownRoleAssignment ∷ []' 'roleConflicts = []' Staff ownRole
 bend "33 left out of kind 13" Numbers.antt 'heldSme c ∷ heldDme c ∷ []' 'heldDme c ∷ []' Orders heldSme
-bend "33 within the hand itself, as if nothing were held yet" Numbers.antt \
-    '(d .row SME) (heldBy d b c)' '(d .row SME) (subjectHand d a b)' Orders heldSme
+bend "33 and 34 within the hand itself, as if nothing were held yet" Numbers.antt \
+    'between (d .row n) (heldBy d p c) hand' 'between (d .row n) hand hand' Orders heldSme
+bend "33 inside order b alone, as document 01 had it" Numbers.antt \
+    'givenLowestPair 33 (isOpen d) (holds SME d c (subjectHand d a b))' 'givenPair 33 (holds SME d c (subjectHand d a b) b)' Orders heldElsewhere
 bend "34 left out of kind 13" Numbers.antt 'heldSme c ∷ heldDme c ∷ []' 'heldSme c ∷ []' Orders heldDme
 bend "34 of the task alone, without its subject group" Numbers.antt \
-    '(d .row DME) (heldBy d b c) (subjectHand d a b)' '(d .row DME) (heldBy d b c) (2 ^ a)' Orders heldDme
+    'holds DME d c (subjectHand d a b) b' 'holds DME d c (2 ^ a) b' Orders heldDme
 bend "a role-bound task of a bound task that gets no role" Requests.antt \
     'bitAnd (roleGroup d a) (d .row orders b)' 'bitAnd (subjectGroup d a) (d .row orders b)' Orders boundHands
 bend "a closed order that keeps its cells" Requests.antt \
@@ -195,9 +219,11 @@ bend "31 of every role" Numbers.antt '(λ o. ownsRole d (role o) b)' '(λ o. tru
 bend "30 turned round" Numbers.antt 'bit (reach d a) b' 'bit (reach d b) a' Staff freeJunior
 bend "32 of tasks that are DME" Numbers.antt 'clash (d .row SME) gain' 'clash (d .row DME) gain' Staff freeRole
 bend "34 of tasks outside the order" Numbers.antt \
-    '(d .row DME) (heldBy d b c) (subjectHand d a b)' '(d .row DME) (heldBy d b c) (subjectGroup d a)' Orders outsideOrder
+    'holds DME d c (subjectHand d a b) b' 'holds DME d c (subjectGroup d a) b' Orders outsideOrder
+bend "34 of every open order" Numbers.antt \
+    'givenPairIn 34 (holds DME d c (subjectHand d a b) b) b' 'givenLowestPair 34 (isOpen d) (holds DME d c (subjectHand d a b))' Orders dmeElsewhere
 bend "33 and 34 of what anybody holds" Numbers.antt \
-    'eqb (subjectIn (d .cell b t)) (suc c)' 'not (eqb (subjectIn (d .cell b t)) 0)' Orders othersHand
+    '(d .row n) (heldBy d p c)' '(d .row n) (joined 64 (λ t. only (not (eqb (subjectIn (d .cell p t)) 0)) (2 ^ t)) (d .row orders p))' Orders othersHand
 
 # ---- The audit's rules
 
@@ -209,8 +235,12 @@ bend "rule 5 in one role group" Audit.antt '(d .row DME) (subjectGroup d)' '(d .
 bend "rule 6 left out" Audit.antt '(λ d. notOwn (reach d))' '(λ d x. true)' Staff wideCycle
 bend "rule 7 of subjects" Audit.antt 'ownerFree d role' 'ownerFree d (subject d)' Pairs roleOwns
 bend "rule 8 of roles" Audit.antt 'ownerFree d (subject d)' 'ownerFree d role' Pairs subjectOwns
-bend "rule 9 of DME pairs alone" Audit.antt 'implies (excludes d u v)' 'implies (bit (d .row DME u) v)' Orders heldSme
-bend "rule 9 of cells that nobody holds" Audit.antt ' || eqb (subjectIn (d .cell p u)) 0' '' Orders openedOrder
+bend "rule 9 of DME pairs alone" Audit.antt \
+    'handsApart d s = pairFree (d .row SME) (heldAnywhere d s) && all' 'handsApart d s = all' Orders heldSme
+bend "rule 9 inside one order for SME too, as document 01 had it" Audit.antt \
+    'pairFree (d .row SME) (heldAnywhere d s)' 'all 64 (λ p. implies (isOpen d p) (pairFree (d .row SME) (heldBy d p s)))' Orders heldElsewhere
+bend "rule 9 over all orders for DME too" Audit.antt \
+    'all 64 (λ p. implies (isOpen d p) (pairFree (d .row DME) (heldBy d p s)))' 'pairFree (d .row DME) (heldAnywhere d s)' Orders dmeElsewhere
 bend "rule 10 with one S in a role group" Audit.antt 'implies (bit bySubject v)' 'implies (bit byRole v)' Orders boundHands
 
 # ---- Who acts in what, which kind 11 alone says (M-101)
@@ -250,6 +280,27 @@ order "the two bits of a pair set in the other order" Requests.antt \
 no_trace "the two bits of a pair taken back in the other order" Requests.antt \
     'takePair rows a b = takeFrom (takeFrom rows b a) a b' 'takePair rows a b = takeFrom (takeFrom rows a b) b a' Lists twoPairs
 
+# ---- What 33 and 34 name (M-104)
+
+mistell "33 that names no order" Numbers.antt '(sayPair n (f p) p)' '(sayPair n (f p) 0)'
+mistell "33 that names the highest order" Numbers.antt \
+    'let p = lowest (λ p. asked p && somePair (f p)) in' \
+    'let q = lowest (λ p. asked (63 - p) && somePair (f (63 - p))) in
+        let p : ℕ = elim (ltb q 64) [ true ↦ 63 - q | false ↦ 64 ] in'
+mistell "33 with x the lowest that is held in any order" Numbers.antt \
+    'heldSme c d a b = givenLowestPair 33 (isOpen d) (holds SME d c (subjectHand d a b))' \
+    'heldSme c d a b rest =
+        let p = lowest (λ p. isOpen d p && somePair (holds SME d c (subjectHand d a b) p)) in
+        let held = joined 64 (λ p. only (isOpen d p) (heldBy d p c)) (2 ^ 64 - 1) in
+        given (ltb p 64) (sayPair 33 (between (d .row SME) held (subjectHand d a b)) p) rest'
+mistell "33 and 34 with the highest partner" Numbers.antt \
+    'sayXYZ n i (lowest (f i)) z' 'sayXYZ n i (63 - lowest (λ v. f i (63 - v))) z'
+mistell "33 and 34 of a partner in whose row the held task is" Numbers.antt \
+    'between (d .row n) (heldBy d p c) hand' '(λ u v. between (d .row n) hand (heldBy d p c) v u)'
+mistell "33 after 34" Numbers.antt 'heldSme c ∷ heldDme c ∷ []' 'heldDme c ∷ heldSme c ∷ []'
+mistell "34 that names no order" Numbers.antt 'givenPairIn 34 (holds DME d c (subjectHand d a b) b) b' 'givenPairIn 34 (holds DME d c (subjectHand d a b) b) 0'
+tell "33 with a test that adds nothing" Numbers.antt 'given (ltb p 64) (sayPair n (f p) p)' 'given (ltb p 64 && true) (sayPair n (f p) p)'
+
 # ---- Written another way
 
 same "20 with a test that adds nothing" Numbers.antt 'given (eqb a b) (say 20' 'given (eqb b a || false) (say 20' Pairs ownBinding
@@ -264,7 +315,8 @@ same "33 and 34 with the two sides swapped" Numbers.antt \
     'eqb (subjectIn (d .cell b t)) (suc c)' 'eqb (suc c) (subjectIn (d .cell b t))' Orders heldDme
 same "the role group with its two tables swapped" Trade.antt 'group (mixed d SB RB) t' 'group (mixed d RB SB) t' Pairs mixedChain
 same "rule 3 with its two tables swapped" Audit.antt 'apart (d .row SME) (d .row DME)' 'apart (d .row DME) (d .row SME)' Pairs alsoDme
-same "rule 9 with a test that is always true" Audit.antt 'implies (excludes d u v)' 'implies (excludes d u v && true)' Orders heldSme
+same "rule 9 with a test that is always true" Audit.antt \
+    'handsApart d s = pairFree (d .row SME) (heldAnywhere d s)' 'handsApart d s = true && pairFree (d .row SME) (heldAnywhere d s)' Orders heldElsewhere
 
 wait
 for n in $(seq "$bent_count"); do
@@ -278,6 +330,8 @@ for n in $(seq "$bent_count"); do
     ordered) what="another wording: $what. The order still does not matter at the trial $trial" ;;
     untraced) what="another wording: $what. It still leaves no trace at the trial $trial" ;;
     stands) what="another wording: $what. The trial $trial still holds" ;;
+    mistold) what="bent: $what. The table of M-104 is told otherwise" ;;
+    told) what="another wording: $what. The table of M-104 is still told" ;;
     esac
     holds "$what" bent_shown "$(cat "$bent/$n.told")"
 done

@@ -37,7 +37,10 @@ typedef enum {
     TWO_COPIES_OLDER  /* the newest was damaged, not by power loss; the one before it is in the book, without the last request */
 } two_copies_loaded;
 
-/* At power-up: fills the book from the newest copy that is whole and passes the audit. */
+/*
+ * At power-up: fills the book from the newest copy that is whole and passes the audit. Where the first number of TOWERPLANK_VERSION has moved,
+ * a copy that an older library saved may break a rule that says something else now: it then counts as damaged. See docs/INTEGRATOR.md first.
+ */
 two_copies_loaded two_copies_load(two_copies *copies, uint64_t book[TOWERPLANK_WORDS]);
 
 /* Saves the book over the older copy. False: it does not read back as written, and the newer copy stands as it was. */

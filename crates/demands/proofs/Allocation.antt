@@ -24,7 +24,7 @@ use Rattle.rules.proofs.ChangeLaws.{unstamped}
 use Rattle.rules.proofs.TradeLaws.{step-from, Shows, subject-group, role-group}
 use Rattle.rules.proofs.HeldLaws.{Holds, held-shows, open-order}
 use Rattle.demands.proofs.Tables.{Sme, Dme, Excluding, SubjectBound, RoleBound, subject-role, role-turns, excluding-turns, excluding-apart}
-use Rattle.demands.proofs.Conflicts.{Silent, one-silent, more-silent, Exact, exact, silent-between, silent-some-between}
+use Rattle.demands.proofs.Conflicts.{Silent, AllSilent, one-silent, more-silent, Exact, exact, silent-between, silent-some-between}
 
 -- The orders o, and a task a of order b; groups run along the relation E.
 module _ (E : Relation) (o : ℕ → ℕ) (a b : ℕ) where
@@ -180,6 +180,39 @@ module _ (d : Book) (sized : Sized d) (sound : Sound d) (a b c : ℕ) (ha : a < 
           (unless-holds (subject-says t) .fails (λ h. f (i .0, h)))
       elsewhere p t f (no g) = ap subjectIn (untouched p t g)
 
+  -- c holds in order p no task that is X to a task of the hand
+  abbrev HoldsNone : Relation → ℕ → Type 0
+  HoldsNone X p = (x y : ℕ) → Holds d p c x → Hand (SubjectBound d) o a b y → X x y → ⊥
+
+  -- 33, of SME and every order ..
+  silent-held-sme : Silent ((p : ℕ) → HoldsNone (Sme d) p) (heldSme c d a b)
+  unfolding heldSme
+  silent-held-sme =
+      silent-some-between d sized 33 SME (isOpen d) (λ p. heldBy d p c) (subjectHand d a b) held-says
+      (λ p x h. (step-from (sized .rows orders) p x (h .0), open-order d p x (h .0))) subject-says
+
+  -- .. and 34, of DME and order b.
+  silent-held-dme : Silent (HoldsNone (Dme d) b) (heldDme c d a b)
+  unfolding heldDme
+  silent-held-dme = silent-between d sized 34 DME (heldBy d b c) (subjectHand d a b) b (held-says b) subject-says
+
+  -- Both are silent exactly where rule 9 is kept.
+  pub allocate-hands : AllSilent (heldConflicts c) d a b (HandsApart o now (Excluding d))
+  unfolding heldConflicts
+  allocate-hands =
+      let asked = more-silent (heldSme c) _ d a b silent-held-sme (one-silent (heldDme c) d a b silent-held-dme) in
+      let turn = sound .bindings .sb .rule2 in (
+        λ e. (let none = asked .0 e in
+            apart-kept turn subject-stamped (excluding-turns d sound) (excluding-apart d sound) (sound .orders .rule9) (either (none .0) (none .1))),
+        λ rule. (let free = apart-needed turn subject-stamped (omega arith) rule in
+            asked .1 (λ p x y h k e. free p x y h k (inl e), λ x y h k e. free b x y h k (inr (refl, e)))),
+      )
+    where
+      -- Both together: c holds nothing that excludes a task of the hand.
+      either : ((p : ℕ) → HoldsNone (Sme d) p) → HoldsNone (Dme d) b → Free (SubjectBound d) o a b (Excluding d) (d .cell) (suc c)
+      either sme dme p x y h k (inl e) = sme p x y h k e
+      either sme dme p x y h k (inr (r, e)) = dme x y (subst (λ (z : ℕ). Holds d z c x) r h) k e
+
   -- The subject c is defined, and has the active role r.
   module _ (r : ℕ) (act : d .row active c ≡ suc r) (dc : In (subjects d) c) where
     -- The changed cells are well-formed.
@@ -203,47 +236,23 @@ module _ (d : Book) (sized : Sized d) (sound : Sound d) (a b c : ℕ) (ha : a < 
             who (yes j) q e = let same : c ≡ q = omega (arith, subject-stamped .inside p t j) in subst (λ (x : ℕ). In (subjects d) x) same dc
             who (no f) q e = was .subject q (sym (subject-stamped .outside p t f) ∙ e) .0
 
-    -- c holds in order p no task that is X to a task of the hand
-    abbrev HoldsNone : Relation → ℕ → Type 0
-    HoldsNone X p = (x y : ℕ) → Holds d p c x → Hand (SubjectBound d) o a b y → X x y → ⊥
-
-    -- 33, of SME and every order ..
-    silent-held-sme : Silent ((p : ℕ) → HoldsNone (Sme d) p) (heldSme c d a b)
-    unfolding heldSme
-    silent-held-sme =
-        silent-some-between d sized 33 SME (isOpen d) (λ p. heldBy d p c) (subjectHand d a b) held-says
-        (λ p x h. (step-from (sized .rows orders) p x (h .0), open-order d p x (h .0))) subject-says
-
-    -- .. and 34, of DME and order b.
-    silent-held-dme : Silent (HoldsNone (Dme d) b) (heldDme c d a b)
-    unfolding heldDme
-    silent-held-dme = silent-between d sized 34 DME (heldBy d b c) (subjectHand d a b) b (held-says b) subject-says
-
-    -- Kind 13 is exact.
+    -- Kind 13 is exact: all other rules stand whatever happens.
     pub allocate-exact : Exact d allocate a b c
-    unfolding change conflicts heldConflicts
+    unfolding change conflicts
     allocate-exact =
-        exact d allocate a b c
-        (more-silent (heldSme c) _ d a b silent-held-sme (one-silent (heldDme c) d a b silent-held-dme))
-        (λ (sme, dme). record {
+        exact d allocate a b c allocate-hands
+        (λ rule9. record {
           gap = sound .gap;
           bindings = sound .bindings;
           ranks = sound .ranks;
           orders = record {
             orders-formed = sound .orders .orders-formed;
             cells-formed = cells-formed;
-            rule9 = apart-kept (sound .bindings .sb .rule2) subject-stamped (excluding-turns d sound) (excluding-apart d sound)
-                (sound .orders .rule9) (either sme dme);
+            rule9 = rule9;
             rule10-subject = together-kept (sound .bindings .sb .rule2) subject-stamped (sound .orders .rule10-subject);
             rule10-role = together-kept (role-turns d sound) role-stamped (sound .orders .rule10-role);
           };
           rule7 = sound .rule7;
           rule8 = sound .rule8;
         })
-        (λ s. let free = apart-needed (sound .bindings .sb .rule2) subject-stamped (omega arith) (s .orders .rule9) in
-        (λ p x y h k e. free p x y h k (inl e), λ x y h k e. free b x y h k (inr (refl, e))))
-      where
-        -- Both together: c holds nothing that excludes a task of the hand.
-        either : ((p : ℕ) → HoldsNone (Sme d) p) → HoldsNone (Dme d) b → Free (SubjectBound d) o a b (Excluding d) (d .cell) (suc c)
-        either sme dme p x y h k (inl e) = sme p x y h k e
-        either sme dme p x y h k (inr (r, e)) = dme x y (subst (λ (z : ℕ). Holds d z c x) r h) k e
+        (λ s. s .orders .rule9)

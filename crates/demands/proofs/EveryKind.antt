@@ -33,7 +33,7 @@ defined m v e = let s = and-out (ltb v 64) (bit m v) e in (ltb-true v 64 (s .0),
 -- A sound book, and any arguments.
 module _ (d : Book) (sized : Sized d) (sound : Sound d) (a b c : ℕ) where
   -- Where 7 is not told, no order is open.
-  shut : givenLowest 7 (isOpen d) accepted ≡ accepted → (p t : ℕ) → Step (d .row orders) p t → ⊥
+  pub shut : givenLowest 7 (isOpen d) accepted ≡ accepted → (p t : ℕ) → Step (d .row orders) p t → ⊥
   unfolding isOpen
   shut e p t i = zero-none t (eqb-true (d .row orders p) 0 (not-false _ (lowest-out 7 (isOpen d) accepted e .0 p (step-from (sized .rows orders) p t i)))) i
 

@@ -7,7 +7,7 @@ use Rattle.chains.specs.Relation.{Step}
 use Rattle.rules.specs.Book.{subjectIn}
 use Rattle.rules.specs.Meaning.{CellRelation, HandsApart}
 
--- The orders o and their cells become o′ and cell′, and where X held of two cells X′ does.
+-- The orders o and their cells become o′ and cell′. X said of two cells that the one excludes the other, and X′ says it now.
 pub record NoneHandedOut (o o′ : ℕ → ℕ) (cell cell′ : ℕ → ℕ → ℕ) (X X′ : CellRelation) : Type 0 where
   pub held : (p t : ℕ) → Step o′ p t → 0 < subjectIn (cell′ p t) → Step o p t × (subjectIn (cell′ p t) ≡ subjectIn (cell p t))
   pub excluded : (p q u v : ℕ) → Step o′ p u → Step o′ q v → X′ p q u v → X p q u v

@@ -8,6 +8,7 @@ pub mod StaffKinds
 pub mod Allocation
 pub mod UnopposedKinds
 pub mod HeldHands
+pub mod OneKind
 pub mod Fewer
 pub mod TakenBack
 pub mod BlankBook
@@ -15,3 +16,4 @@ pub mod EveryKind
 pub mod Demand3
 pub mod PairsBack
 pub mod ActiveRoles
+pub mod Hands

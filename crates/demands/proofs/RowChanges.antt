@@ -4,6 +4,7 @@ use mathlib.Core.Path.{_≡_, refl, sym, ap, _∙_, subst}
 use mathlib.Core.Logic.{_⊎_, inl, inr}
 use mathlib.Core.Bool.{Bool, true, false, not}
 use Prim.Native.Nat.{ℕ, _<_}
+use native.Mathlib.Omega.{arith}
 use lib.Dec.{eqb}
 use borrow.Author.Tests.{eqb-true, eq-eqb, ne-eqb}
 use Rattle.sets.specs.Mask.{bit, with, without}
@@ -11,9 +12,10 @@ use Rattle.sets.proofs.Logic.{and-out, and-in, not-in, not-out}
 use Rattle.sets.proofs.MaskLaws.{in-with, with-old, with-out, without-old, bit-without}
 use Rattle.chains.specs.Relation.{Relation, In, Step}
 use Rattle.chains.proofs.RelationLaws.{Tied, old, there, back, Under, old-step, new-step}
-use Rattle.rules.specs.Requests.{setRow, addTo, takeFrom, addPair, takePair}
+use Rattle.rules.specs.Book.{Book}
+use Rattle.rules.specs.Requests.{setRow, addTo, takeFrom, addPair, takePair, setTable}
 use Rattle.rules.specs.Meaning.{Tall, Symmetric, Between, Pairs}
-use Rattle.rules.proofs.ChangeLaws.{set-cases, take-tall}
+use Rattle.rules.proofs.ChangeLaws.{set-cases, table-cases, take-tall}
 use Rattle.rules.proofs.TradeLaws.{step-to}
 use Rattle.demands.proofs.PairRules.{Adds}
 
@@ -163,3 +165,7 @@ module _ (rows : ℕ → ℕ) (a b : ℕ) where
   pair-turns tall ha hb turn u v e =
       let gone = pair-gone ha hb u v e in
       pair-kept tall ha hb v u (turn u v (pair-old u v e)) (λ p q. gone .1 q p) (λ p q. gone .0 q p)
+
+-- Where one table is set, those after it stay.
+pub table-before : (d : Book) (n k : ℕ) (f : ℕ → ℕ) → n < k → setTable d n f .row k ≡ d .row k
+table-before d n k f h = table-cases d n f (λ m g. n < m → g ≡ d .row m) (λ l. absurd (omega arith)) (λ m e l. refl) k h

@@ -1,3 +1,4 @@
 pub mod Demand3
 pub mod PairsBack
 pub mod ActiveRoles
+pub mod Hands

@@ -22,11 +22,11 @@ pub record Stored (before after : List ℕ) (q : Request) : Type 0 where
 
 -- the slice was `before` and is `after`; r was answered to q
 pub record Answered (before after : List ℕ) (q : Request) (r : Answer) : Type 0 where
-  -- the number, x and y are those of the documents
+  -- the number, x, y and z are those of the documents
   pub told : said r ≡ answer (length before) (words before) q
   pub stored : Stored before after q
 
--- Two outcomes of one request that satisfy it coincide: the same answer, with its number, x and y, and the same slice, word for word.
+-- Two outcomes of one request that satisfy it coincide: the same answer, with its number, x, y and z, and the same slice, word for word.
 abbrev pub OneOutcome : Type 0
 OneOutcome =
     (before after after′ : List ℕ) (q : Request) (r r′ : Answer) → Answered before after q r → Answered before after′ q r′ → (r ≡ r′) × (after ≡ after′)

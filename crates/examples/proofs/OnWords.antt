@@ -16,8 +16,9 @@ use Rattle.rules.proofs.BookLaws.{read-sized, write-read}
 use Rattle.rules.proofs.ChangeLaws.{blind-sized, changed-book}
 use Rattle.rules.specs.Small.{Word, bookOf, small}
 use Rattle.rules.proofs.SmallLaws.{small-fits}
-use Rattle.examples.specs.Examples.{Step, Run, same, stand, goes, allGo, examples, examples-hold}
-use Rattle.examples.specs.SeveralOrders.{severalOrders, several-orders-hold, Found, allFound, findings, findings-hold}
+use Rattle.examples.specs.Examples.{Step, Run, same, stand, goes, allGo, examples}
+use Rattle.examples.specs.SeveralOrders.{severalOrders, Found, allFound, findings}
+use Rattle.examples.specs.Hold.{examples-hold, several-orders-hold, findings-hold}
 use Rattle.examples.specs.OnWords.{Stand, Goes, AllGo, ExamplesOnWords, SeveralOnWords, AllFound, FindingsOnWords}
 
 -- What a test that passed leaves.

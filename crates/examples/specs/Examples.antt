@@ -4,12 +4,11 @@
 use mathlib.Core.Bool.{Bool, true, false, _&&_}
 use mathlib.Core.List.{List, [], _∷_}
 use Prim.Native.Nat.{ℕ}
-use lib.Dec.{T, ltb, eqb}
+use lib.Dec.{ltb, eqb}
 use Rattle.rules.specs.Book.{Book, bookWords, read, write}
 use Rattle.rules.specs.Requests.{Request}
 use Rattle.rules.specs.Numbers.{Said, accepted, says, say, sayX, sayXY, sayXYZ, judge, kept}
 use Rattle.rules.specs.Small.{Word, cell, bookOf, small}
-use Rattle.rules.specs.Computed.{computed}
 
 -- all zeros
 abbrev pub blank : List Word
@@ -129,8 +128,3 @@ examples =
     ∷ ask 13 1 0 0 (sayXYZ 33 0 1 0) []
     ∷ [])
     ∷ []
-
--- P1 to P14 hold of the rules.
-pub examples-hold : T (allGo examples)
-unfolding computed
-examples-hold = tt

@@ -3,7 +3,7 @@ use mathlib.Core.Path.{_≡_, sym, ap, _∙_}
 use mathlib.Core.Bool.{Bool, true, false, _&&_, not}
 use Prim.Native.Nat.{ℕ, suc, _+_, _-_, _^_, _<_}
 use native.Mathlib.Omega.{arith}
-use lib.Bits.{bitOr}
+use lib.Bits.{bitOr, or-zero-r}
 use Rattle.sets.specs.Mask.{bit, only, joined}
 use Rattle.sets.specs.Search.{all}
 use Rattle.sets.proofs.Logic.{and-fails-l, not-both}
@@ -15,7 +15,7 @@ use Rattle.rules.specs.Numbers.{heldBy}
 use Rattle.rules.specs.Audit.{pairFree, heldAnywhere, handsApart, rules, keptAt, broken}
 use Rattle.rules.specs.Meaning.{Sized, Formed}
 use Rattle.rules.proofs.Exactly.{itself, exactly-same, exactly-as, exactly-and, exactly-implies, exactly-all}
-use Rattle.rules.proofs.HeldLaws.{held-shows, anywhere-shows}
+use Rattle.rules.proofs.HeldLaws.{held-shows, held-open, anywhere-shows}
 use Rattle.rules.proofs.AuditLaws.{not-not}
 use Rattle.hand_rules.specs.Hands.{smeApart, dmeApart}
 
@@ -40,6 +40,11 @@ all-alike rows f g same =
     (exactly-all 64 _ (λ k h. itself (pairFree rows (g k)))))
 
 module _ (d : Book) (s : Sized d) where
+  -- In an order that is not open nothing is held, so what is noted stays as it is.
+  pub shut-noted : (p k v : ℕ) → k < 64 → isOpen d p ≡ false → v ≡ bitOr v (heldBy d p k)
+  shut-noted p k v h shut =
+      sym (ap (bitOr v) (sym (held-open d s p k h) ∙ ap (λ (b : Bool). only b (heldBy d p k)) shut) ∙ or-zero-r v)
+
   -- Who is undefined holds nothing, neither in one order ..
   pub nothing-held : Formed d → (p c : ℕ) → c < 64 → bit (subjects d) c ≡ false → heldBy d p c ≡ 0
   nothing-held f p c h out =

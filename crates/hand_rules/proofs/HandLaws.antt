@@ -2,7 +2,7 @@
 use mathlib.Core.Path.{_≡_, refl, sym, ap, ap₂, _∙_}
 use mathlib.Core.Bool.{Bool, true, false, _&&_, _||_, not}
 use mathlib.Core.List.{List}
-use Prim.Native.Nat.{ℕ, suc, _-_, _^_, _<_}
+use Prim.Native.Nat.{ℕ, suc, _+_, _-_, _^_, _≤_, _<_}
 use native.Mathlib.Decide.{ℕ-discrete}
 use native.Mathlib.Omega.{arith}
 use lib.Dec.{eqb}
@@ -45,6 +45,19 @@ noted-joins s t k v = go (eqb s (suc k))
     go : (x : Bool) → notedIf x t v ≡ bitOr v (only x (2 ^ t))
     go true = refl
     go false = sym (or-zero-r v)
+
+-- Those below i have joined what is held here to what they were noted with, and the others are as they were ..
+abbrev pub GatheredTo : ℕ → List ℕ → List ℕ → List ℕ → Type 0
+GatheredTo i held before now = (k : ℕ) → k < 64 → (k < i → words now k ≡ bitOr (words before k) (words held k)) × (i ≤ k → words now k ≡ words before k)
+
+-- .. and so on with i.
+pub gathered-on : (held before now : List ℕ) (i : ℕ) → i < 64 → i < length now → GatheredTo i held before now
+    → GatheredTo (i + 1) held before (set now i (bitOr (words now i) (words held i)))
+gathered-on held before now i h l done k hk = (λ m. go m (ℕ-discrete k i), λ m. getD-set-other now i k _ 0 (λ q. omega arith) ∙ done k hk .1 (omega arith))
+  where
+    go : k < i + 1 → Dec (k ≡ i) → words (set now i (bitOr (words now i) (words held i))) k ≡ bitOr (words before k) (words held k)
+    go m (yes q) = rw q (getD-set-same now i _ 0 l ∙ ap (λ (n : ℕ). bitOr n (words held i)) (done i h .1 (omega arith)))
+    go m (no q) = getD-set-other now i k _ 0 q ∙ done k hk .0 (omega arith)
 
 -- One thing implies another where it fails or the other holds.
 or-implies : (p q : Bool) → (not p || q) ≡ implies p q

@@ -27,6 +27,10 @@ noted s t k v = elim (eqb s (suc k)) [ true ↦ with v t | false ↦ v ]
 abbrev pub NotedIn : Book → ℕ → List ℕ → List ℕ → Type 0
 NotedIn d p before after = (length after ≡ 64) × ((s : ℕ) → s < 64 → words after s ≡ bitOr (words before s) (heldBy d p s))
 
+-- what each is noted with anywhere became what it was and what is noted here
+abbrev pub Gathered : List ℕ → List ℕ → List ℕ → Type 0
+Gathered held before after = (length after ≡ 64) × ((s : ℕ) → s < 64 → words after s ≡ bitOr (words before s) (words held s))
+
 -- who is undefined is noted with nothing
 abbrev pub OnlyDefined : Book → List ℕ → Type 0
 OnlyDefined d held = (s : ℕ) → s < 64 → bit (subjects d) s ≡ false → words held s ≡ 0

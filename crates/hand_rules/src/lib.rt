@@ -9,7 +9,7 @@ ghost use Rattle.sets.specs.Search.{all};
 ghost use Rattle.rules.specs.Book.{tableCount};
 ghost use Rattle.rules.specs.Audit.{pairFree, broken};
 ghost use Rattle.book.specs.Slice.{words, tables, Full, WellFormed};
-ghost use Rattle.hand_rules.specs.Hands.{Opens, noted, NotedIn, OnlyDefined, smeApart, dmeApartIn, dmeApart};
+ghost use Rattle.hand_rules.specs.Hands.{Opens, noted, NotedIn, Gathered, OnlyDefined, dmeApartIn};
 ghost use Rattle.hand_rules.specs.Hands.{fromLowest, alike, sameHand, togetherIn, boundTogether};
 
 // The open orders, those that have a task, as a set.
@@ -60,50 +60,46 @@ fn are_free(book: &[u64], table: u64, held: &[u64; 64]) -> bool
     true
 }
 
-// Rule 9 for DME in one order: nobody holds both tasks of a pair in it. An order that is not open asks nothing.
-fn is_dme_apart_in(book: &[u64], order: u64) -> bool
-    requires { ⌜ WellFormed (now book) × (order < 64) ⌝ }
-    ensures { λ r. ⌜ r ≡ dmeApartIn (tables (now (book .entry))) order ⌝ }
+// What each subject is noted with joins what it is noted with anywhere.
+fn gather(held: &[u64; 64], anywhere: &mut [u64; 64])
+    requires { ⌜ (length (now held) ≡ 64) × (length (now anywhere) ≡ 64) ⌝ }
+    ensures { λ _. ⌜ Gathered (now (held .entry)) (now (anywhere .entry)) (now (anywhere .exit)) ⌝ }
+{
+    let mut s: usize = 0;
+    while s < 64 {
+        anywhere[s] = anywhere[s] | held[s];
+        s += 1;
+    }
+}
+
+// Rule 9 for DME in one order: nobody holds both tasks of a pair in it. What each holds in it joins what they hold anywhere. An order that is
+// not open asks nothing, and nothing is held in it.
+fn is_dme_apart_in(book: &[u64], order: u64, anywhere: &mut [u64; 64]) -> bool
+    requires { ⌜ WellFormed (now book) × (order < 64) × (length (now anywhere) ≡ 64) ⌝ }
+    ensures { λ r. ⌜ (r ≡ dmeApartIn (tables (now (book .entry))) order)
+        × NotedIn (tables (now (book .entry))) order (now (anywhere .entry)) (now (anywhere .exit)) ⌝ }
 {
     if book::row(book, book::ORDERS, order) == 0 {
         return true;
     }
     let mut held = [0u64; 64];
     note_order(book, order, &mut held);
+    gather(&held, anywhere);
     are_free(book, book::DME, &held)
 }
 
-// Rule 9 for DME, in every order by itself.
-fn is_dme_apart(book: &[u64]) -> bool
-    requires { ⌜ WellFormed (now book) ⌝ }
-    ensures { λ r. ⌜ r ≡ dmeApart (tables (now (book .entry))) ⌝ }
-{
-    for order in 0..64 {
-        if !is_dme_apart_in(book, order) {
-            return false;
-        }
-    }
-    true
-}
-
-// Rule 9 for SME: nobody holds both tasks of a pair, in whatever orders.
-fn is_sme_apart(book: &[u64]) -> bool
-    requires { ⌜ WellFormed (now book) ⌝ }
-    ensures { λ r. ⌜ r ≡ smeApart (tables (now (book .entry))) ⌝ }
-{
-    let mut held = [0u64; 64];
-    for order in 0..64 {
-        note_order(book, order, &mut held);
-    }
-    are_free(book, book::SME, &held)
-}
-
-// Rule 9.
+// Rule 9: DME in each order by itself, then SME of what is held in all of them together.
 pub fn are_apart(book: &[u64]) -> bool
     requires { ⌜ WellFormed (now book) ⌝ }
     ensures { λ r. ⌜ r ≡ not (broken (tables (now (book .entry))) 9) ⌝ }
 {
-    is_sme_apart(book) & is_dme_apart(book)
+    let mut anywhere = [0u64; 64];
+    for order in 0..64 {
+        if !is_dme_apart_in(book, order, &mut anywhere) {
+            return false;
+        }
+    }
+    are_free(book, book::SME, &anywhere)
 }
 
 // The set, where u is its lowest member; else nothing.

@@ -1,7 +1,7 @@
 -- 33 and 34 from the searches. Of what c holds those tasks alone count that have a partner in the hand, so it is the same whether all of
 -- it is searched or those. 33 goes through the orders and ends at the first that has a pair; such an order is open, for c holds a task in it.
 use mathlib.Core.Path.{_≡_, refl, sym, ap, _∙_}
-use mathlib.Core.Bool.{Bool, true, false}
+use mathlib.Core.Bool.{Bool, true, false, _&&_}
 use Prim.Native.Nat.{ℕ, suc, _-_, _^_, _<_}
 use native.Mathlib.Omega.{arith}
 use lib.Dec.{ltb, eqb}
@@ -15,7 +15,7 @@ use Rattle.sets.proofs.SearchLaws.{lowest-end, pair-none}
 use Rattle.rules.specs.Book.{Book, tasks, SME, DME, orders, subjectIn}
 use Rattle.rules.specs.Requests.{isOpen, subjectHand}
 use Rattle.rules.specs.Numbers.{Said, accepted, sayXYZ, given, somePair, sayPair, givenPairIn, givenLowestPair, between, heldBy}
-use Rattle.rules.specs.Numbers.{heldSme, heldDme, heldConflicts, firstOf, isAccepted}
+use Rattle.rules.specs.Numbers.{holds, heldSme, heldDme, heldConflicts, firstOf, isAccepted}
 use Rattle.rules.specs.Meaning.{Sized, Formed}
 use Rattle.rules.proofs.Exactly.{Exactly, itself, exactly-same}
 use Rattle.rules.proofs.HeldLaws.{held-shows, open-order}
@@ -27,12 +27,15 @@ use Rattle.search.proofs.AmongLaws.{among-exactly}
 use Rattle.search.proofs.PairLaws.{found-same, found-some, given-pair, given-nothing}
 use Rattle.deeds.proofs.CascadeLaws.{given-yes, given-stands, given-gives-way}
 use Rattle.hands.specs.Held.{heldAmong}
-use Rattle.orders.specs.Held.{holdsTo, excludedIn, heldSmeIn, heldDmeIn}
+
+-- order p is open, and c holds in it a task that is SME to one of the hand
+abbrev pub excludedIn : Book → ℕ → ℕ → ℕ → Bool
+excludedIn d c hand p = isOpen d p && somePair (holds SME d c hand p)
 
 -- Where no order is found, 33 is silent.
-pub sme-silent : (d : Book) (c hand : ℕ) → 64 ≡ lowest (excludedIn d c hand) → accepted ≡ heldSmeIn d c hand accepted
-unfolding heldSmeIn givenLowestPair given
-sme-silent d c hand at = ap (λ (q : ℕ). given (ltb q 64) (sayPair 33 (holdsTo SME d c hand q) q) accepted) at
+pub sme-silent : (d : Book) (c hand : ℕ) → 64 ≡ lowest (excludedIn d c hand) → accepted ≡ givenLowestPair 33 (isOpen d) (holds SME d c hand) accepted
+unfolding givenLowestPair given
+sme-silent d c hand at = ap (λ (q : ℕ). given (ltb q 64) (sayPair 33 (holds SME d c hand q) q) accepted) at
 
 -- Of table n, what c holds in order p among those, and the hand. All that have a partner in the hand are among those.
 module _ (d : Book) (s : Sized d) (c hand : ℕ) (hc : c < 64) where
@@ -51,10 +54,10 @@ module _ (d : Book) (s : Sized d) (c hand : ℕ) (hc : c < 64) where
 
   -- So a search among those finds what a search of all that c holds finds.
   pub held-found : (n p those : ℕ) → those < 2 ^ 64 → ((u v : ℕ) → u < 64 → bit (d .row n u) v ≡ true → bit hand v ≡ true → bit those u ≡ true)
-      → {held : ℕ} {v : Found} → held ≡ heldAmong d p c those → v ≡ foundPair (between (d .row n) held hand) → v ≡ foundPair (holdsTo n d c hand p)
+      → {held : ℕ} {v : Found} → held ≡ heldAmong d p c those → v ≡ foundPair (between (d .row n) held hand) → v ≡ foundPair (holds n d c hand p)
   held-found n p those h enough e f =
       f ∙ ap (λ (m : ℕ). foundPair (between (d .row n) m hand)) e
-      ∙ found-same (between (d .row n) (heldAmong d p c those) hand) (holdsTo n d c hand p) (λ u v hu hv. exactly-same (record {
+      ∙ found-same (between (d .row n) (heldAmong d p c those) hand) (holds n d c hand p) (λ u v hu hv. exactly-same (record {
         means = λ t. (let x = and-out _ _ t in and-in (among-held p those u h .means (x .0) .0) (x .1));
         holds = λ t. (
             let x = and-out _ _ t in
@@ -72,25 +75,25 @@ module _ (d : Book) (s : Sized d) (c hand : ℕ) (hc : c < 64) where
 
     -- What is found in order p among them is what the rules ask of the order.
     pub sme-found : (p : ℕ) → excluded < 2 ^ 64 → {held : ℕ} {v : Found} → held ≡ heldAmong d p c excluded
-        → v ≡ foundPair (between (d .row SME) held hand) → v ≡ foundPair (holdsTo SME d c hand p)
+        → v ≡ foundPair (between (d .row SME) held hand) → v ≡ foundPair (holds SME d c hand p)
     sme-found p h = held-found SME p excluded h enough
 
     -- Where nothing is excluded, no order has a pair.
-    pub none-excluded : excluded ≡ 0 → accepted ≡ heldSmeIn d c hand accepted
+    pub none-excluded : excluded ≡ 0 → accepted ≡ givenLowestPair 33 (isOpen d) (holds SME d c hand) accepted
     none-excluded z = sme-silent d c hand (lowest-end 64 (excludedIn d c hand) (λ p hp. and-fails-r (isOpen d p) _
-        (pair-none (holdsTo SME d c hand p) (λ u v hu hv. refute _ (λ t.
+        (pair-none (holds SME d c hand p) (λ u v hu hv. refute _ (λ t.
         let x = and-out (bit (d .row SME u) v) (bit hand v) (and-out (bit (heldBy d p c) u) _ t .1) in
         zero-none u z (enough u v hu (x .0) (x .1)))))))
 
   -- In order p the search gave v.
-  module _ (p : ℕ) {v : Found} (found : v ≡ foundPair (holdsTo SME d c hand p)) where
+  module _ (p : ℕ) {v : Found} (found : v ≡ foundPair (holds SME d c hand p)) where
     -- No pair: the order is none of those that 33 looks for.
     pub none-here : v ≡ Nothing → excludedIn d c hand p ≡ false
     none-here e = and-fails-r (isOpen d p) _ (sym (found-some _ found) ∙ ap isPair e)
 
     -- A pair: it is one, and it is open, since c holds a task in it.
     module _ {x y : ℕ} (pair : v ≡ Pair x y) where
-      some : somePair (holdsTo SME d c hand p) ≡ true
+      some : somePair (holds SME d c hand p) ≡ true
       some = sym (found-some _ found) ∙ ap isPair pair
 
       opened : isOpen d p ≡ true
@@ -98,47 +101,46 @@ module _ (d : Book) (s : Sized d) (c hand : ℕ) (hc : c < 64) where
         where
           go : (t : Bool) → isOpen d p ≡ t → isOpen d p ≡ true
           go true e = e
-          go false shut = absurd (not-both _ some (pair-none (holdsTo SME d c hand p) (λ u v hu hv. refute _ (λ t.
+          go false shut = absurd (not-both _ some (pair-none (holds SME d c hand p) (λ u v hu hv. refute _ (λ t.
               not-both (isOpen d p) (open-order d p u (held-shows d s p .says c u hc .means (and-out (bit (heldBy d p c) u) _ t .0) .0)) shut))))
 
       pub pair-here : excludedIn d c hand p ≡ true
       pair-here = and-in opened some
 
       -- The first such order, with its pair, is what 33 gives.
-      pub sme-told : p < 64 → p ≡ lowest (excludedIn d c hand) → sayXYZ 33 x y p ≡ heldSmeIn d c hand accepted
-      unfolding heldSmeIn givenLowestPair givenPairIn
+      pub sme-told : p < 64 → p ≡ lowest (excludedIn d c hand) → sayXYZ 33 x y p ≡ givenLowestPair 33 (isOpen d) (holds SME d c hand) accepted
+      unfolding givenLowestPair givenPairIn
       sme-told h at =
-          let f = holdsTo SME d c hand p in
+          let f = holds SME d c hand p in
           sym (given-pair f 33 p accepted found pair)
           ∙ sym (given-yes (somePair f) (sayPair 33 f p) accepted some)
           ∙ given-yes (ltb p 64) (sayPair 33 f p) accepted (lt-ltb p 64 h)
-          ∙ ap (λ (q : ℕ). given (ltb q 64) (sayPair 33 (holdsTo SME d c hand q) q) accepted) at
+          ∙ ap (λ (q : ℕ). given (ltb q 64) (sayPair 33 (holds SME d c hand q) q) accepted) at
 
   -- 34, in order b alone, of all that c holds there.
   module _ (b : ℕ) {held : ℕ} {v : Found} (isHeld : held ≡ heldAmong d b c (2 ^ 64 - 1 - 0)) (found : v ≡ foundPair (between (d .row DME) held hand)) where
-    whole : v ≡ foundPair (holdsTo DME d c hand b)
+    whole : v ≡ foundPair (holds DME d c hand b)
     whole = held-found DME b (2 ^ 64 - 1 - 0) (omega arith) (λ u v hu e f. in-full u hu) isHeld found
 
-    pub dme-told : {x y : ℕ} → v ≡ Pair x y → sayXYZ 34 x y b ≡ heldDmeIn d b c hand accepted
-    unfolding heldDmeIn
+    pub dme-told : {x y : ℕ} → v ≡ Pair x y → sayXYZ 34 x y b ≡ givenPairIn 34 (holds DME d c hand b) b accepted
     dme-told e = sym (given-pair _ 34 b accepted whole e)
 
-    pub dme-silent : v ≡ Nothing → accepted ≡ heldDmeIn d b c hand accepted
-    unfolding heldDmeIn
+    pub dme-silent : v ≡ Nothing → accepted ≡ givenPairIn 34 (holds DME d c hand b) b accepted
     dme-silent e = sym (given-nothing _ 34 b accepted whole e)
 
 -- Both in their order: 33 is asked first, and s is its answer.
-module _ (d : Book) (a b c : ℕ) {hand : ℕ} (isHand : hand ≡ subjectHand d a b) {s : Said} (asked : s ≡ heldSmeIn d c hand accepted) where
-  first : s ≡ heldSmeIn d c (subjectHand d a b) accepted
-  first = asked ∙ ap (λ (m : ℕ). heldSmeIn d c m accepted) isHand
+module _ (d : Book) (a b c : ℕ) {hand : ℕ} (isHand : hand ≡ subjectHand d a b) {s : Said}
+    (asked : s ≡ givenLowestPair 33 (isOpen d) (holds SME d c hand) accepted) where
+  first : s ≡ givenLowestPair 33 (isOpen d) (holds SME d c (subjectHand d a b)) accepted
+  first = asked ∙ ap (λ (m : ℕ). givenLowestPair 33 (isOpen d) (holds SME d c m) accepted) isHand
 
   -- It stands ..
   pub sme-stands : isAccepted s ≡ false → s ≡ firstOf (heldConflicts c) d a b
-  unfolding firstOf heldConflicts heldSme heldSmeIn givenLowestPair
+  unfolding firstOf heldConflicts heldSme givenLowestPair
   sme-stands e = first ∙ given-stands _ 33 _ _ (sym (ap isAccepted first) ∙ e)
 
   -- .. or it is silent, and 34 is asked.
-  pub dme-next : isAccepted s ≡ true → {out : Said} → out ≡ heldDmeIn d b c hand accepted → out ≡ firstOf (heldConflicts c) d a b
-  unfolding firstOf heldConflicts heldSme heldDme heldSmeIn heldDmeIn givenLowestPair
+  pub dme-next : isAccepted s ≡ true → {out : Said} → out ≡ givenPairIn 34 (holds DME d c hand b) b accepted → out ≡ firstOf (heldConflicts c) d a b
+  unfolding firstOf heldConflicts heldSme heldDme givenLowestPair
   dme-next e p =
-      p ∙ ap (λ (m : ℕ). givenPairIn 34 (holdsTo DME d c m b) b accepted) isHand ∙ given-gives-way _ 33 _ _ (sym (ap isAccepted first) ∙ e)
+      p ∙ ap (λ (m : ℕ). givenPairIn 34 (holds DME d c m b) b accepted) isHand ∙ given-gives-way _ 33 _ _ (sym (ap isAccepted first) ∙ e)

@@ -6,12 +6,12 @@ ghost use mathlib.Core.Path.{_≡_};
 ghost use Prim.Native.Nat.{_-_, _≤_, _<_};
 ghost use Rattle.sets.specs.Search.{lowest};
 ghost use Rattle.rules.specs.Trade.{role, ownedTasks};
-ghost use Rattle.rules.specs.Requests.{openOrder, allocate, closeOrder, roleHand};
-ghost use Rattle.rules.specs.Numbers.{accepted, outside, cellRefusal, allocateRefusal, heldConflicts, firstOf};
+ghost use Rattle.rules.specs.Book.{SME, DME};
+ghost use Rattle.rules.specs.Requests.{openOrder, allocate, closeOrder, isOpen, roleHand};
+ghost use Rattle.rules.specs.Numbers.{accepted, givenPairIn, givenLowestPair, outside, cellRefusal, allocateRefusal, holds, heldConflicts, firstOf};
 ghost use Rattle.book.specs.Slice.{tables, Full, WellFormed};
 ghost use Rattle.answers.specs.Answers.{said};
 ghost use Rattle.deeds.specs.Outcome.{decide, Settled};
-ghost use Rattle.orders.specs.Held.{heldSmeIn, heldDmeIn};
 
 // Kind 12: open order a with the task mask c. 5 where it is open already.
 pub fn open_order(book: &mut [u64], a: u64, c: u64) -> Answer
@@ -82,7 +82,7 @@ fn allocate_refusal(book: &[u64], a: u64, b: u64, c: u64) -> Answer
 // Kind 13: 33, between what c holds in each order and the tasks that c would get. The tasks that are SME to one of these are found once.
 fn sme_held(book: &[u64], c: u64, hand: u64) -> Answer
     requires { ⌜ WellFormed (now book) × (c < 64) ⌝ }
-    ensures { λ r. ⌜ said r ≡ heldSmeIn (tables (now (book .entry))) c hand accepted ⌝ }
+    ensures { λ r. ⌜ said r ≡ givenLowestPair 33 (isOpen (tables (now (book .entry)))) (holds SME (tables (now (book .entry))) c hand) accepted ⌝ }
 {
     let excluded = search::meeting(book, book::SME, book::head(book, book::TASKS), hand);
     if excluded == 0 {
@@ -100,7 +100,7 @@ fn sme_held(book: &[u64], c: u64, hand: u64) -> Answer
 // Kind 13: 34, between what c holds in order b and the tasks that c would get there.
 fn dme_held(book: &[u64], b: u64, c: u64, hand: u64) -> Answer
     requires { ⌜ Full (now book) × (b < 64) × (c < 64) ⌝ }
-    ensures { λ r. ⌜ said r ≡ heldDmeIn (tables (now (book .entry))) b c hand accepted ⌝ }
+    ensures { λ r. ⌜ said r ≡ givenPairIn 34 (holds DME (tables (now (book .entry))) c hand b) b accepted ⌝ }
 {
     let held = hands::held_among(book, b, c, !0);
     if let Found::Pair(x, y) = search::first_pair(book, book::DME, held, hand) {

@@ -8,7 +8,7 @@ use native.Mathlib.Decide.{decLt}
 use lib.Dec.{eqb}
 use lib.Pow.{pow-lt}
 use borrow.Author.Tests.{eqb-true, eq-eqb, ne-eqb}
-use Rattle.sets.specs.Mask.{only, joined}
+use Rattle.sets.specs.Mask.{only}
 use Rattle.sets.proofs.Logic.{not-both, not-in}
 use Rattle.sets.proofs.MaskLaws.{bit-lt, in-one, one-out, in-full, none-zero, zero-none, only-lt, joined-in, joined-out, joined-lt}
 use Rattle.chains.specs.Relation.{Relation, In, Step}

@@ -48,12 +48,6 @@ pairFree rows m = all 64 (λ u. not (bit m u && meet (rows u) m))
 unfoldable pub ownerFree : Book → Owner → ℕ → Bool
 ownerFree d start o = pairFree (d .row SME) (ownedTasks d (start o))
 
-abbrev pub sameSubject : Book → ℕ → ℕ → ℕ → Bool
-sameSubject d p u v = eqb (subjectIn (d .cell p u)) (subjectIn (d .cell p v))
-
-abbrev pub sameRole : Book → ℕ → ℕ → ℕ → Bool
-sameRole d p u v = eqb (roleIn (d .cell p u)) (roleIn (d .cell p v))
-
 -- the tasks that subject s holds in one open order or another
 unfoldable pub heldAnywhere : Book → ℕ → ℕ
 heldAnywhere d s = joined 64 (λ p. only (isOpen d p) (heldBy d p s)) (2 ^ 64 - 1)
@@ -68,6 +62,12 @@ inOrder f d u p = implies (bit (d .row orders p) u) (all 64 (λ v. implies (bit 
 
 unfoldable pub inOrders : (ℕ → ℕ → ℕ → Bool) → Book → ℕ → Bool
 inOrders f d u = all 64 (inOrder f d u)
+
+abbrev pub sameSubject : Book → ℕ → ℕ → ℕ → Bool
+sameSubject d p u v = eqb (subjectIn (d .cell p u)) (subjectIn (d .cell p v))
+
+abbrev pub sameRole : Book → ℕ → ℕ → ℕ → Bool
+sameRole d p u v = eqb (roleIn (d .cell p u)) (roleIn (d .cell p v))
 
 -- 10. In one open order, looking only at the cells of its own tasks:
 -- those of one subject group have all the same S, and those of one role group all the same E (0 counts as a value).

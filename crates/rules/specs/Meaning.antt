@@ -86,7 +86,7 @@ Both o p u v = Step o p u × Step o p v
 abbrev pub CellRelation : Type 1
 CellRelation = (p q u v : ℕ) → Type 0
 
--- Rule 9. No two cells of open orders that exclude each other have the same S above 0.
+-- Rule 9. No cell of an open order has the same S above 0 as one, of that order or another, that it excludes.
 abbrev pub HandsApart : (ℕ → ℕ) → (ℕ → ℕ → ℕ) → CellRelation → Type 0
 HandsApart o cell X =
     (p q u v : ℕ) → Step o p u → Step o q v → X p q u v → subjectIn (cell p u) ≡ subjectIn (cell q v) → 0 < subjectIn (cell p u) → ⊥
@@ -123,7 +123,7 @@ pub record Ranks (T R S : ℕ) (j g h act : ℕ → ℕ) : Type 0 where
   pub active-formed : (s r : ℕ) → act s ≡ suc r → In S s × In R r
   pub rule6 : NoCycle (Step j)
 
--- Two cells exclude each other by SME, in whatever orders they are, or by DME, in one order.
+-- u excludes v if v is in u's SME or DME row: by SME in whatever orders the two cells are, by DME in one order.
 abbrev pub Excludes : (ℕ → ℕ) → (ℕ → ℕ) → CellRelation
 Excludes x y p q u v = Step x u v ⊎ ((p ≡ q) × Step y u v)
 

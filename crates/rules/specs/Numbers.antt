@@ -73,7 +73,7 @@ givenPairIn n f z rest = given (somePair f) (sayPair n f z) rest
 abbrev pub givenPair : ℕ → (ℕ → ℕ → Bool) → Said → Said
 givenPair n f = givenPairIn n f 0
 
--- number n with z the lowest of those asked whose pairs there are some of, then x and y the lowest for it
+-- number n with z the lowest of those asked that has a pair, then x and y the lowest for it
 unfoldable pub givenLowestPair : ℕ → (ℕ → Bool) → (ℕ → ℕ → ℕ → Bool) → Said → Said
 givenLowestPair n asked f rest = let p = lowest (λ p. asked p && somePair (f p)) in given (ltb p 64) (sayPair n (f p) p) rest
 
@@ -224,17 +224,17 @@ ownRoleAssignment d a b = givenPair 32 (clashes d (subject d) (eqb b) (gainedRol
 unfoldable pub heldBy : Book → ℕ → ℕ → ℕ
 heldBy d b c = joined 64 (λ t. only (eqb (subjectIn (d .cell b t)) (suc c)) (2 ^ t)) (d .row orders b)
 
--- c holds in order p a task x of table n to a task y of a's subject group in order b
-abbrev pub holds : ℕ → ℕ → Book → ℕ → ℕ → ℕ → ℕ → ℕ → Bool
-holds n c d a b p = between (d .row n) (heldBy d p c) (subjectHand d a b)
+-- c holds in order p a task x whose row of table n has a task y of the hand
+abbrev pub holds : ℕ → Book → ℕ → ℕ → ℕ → ℕ → ℕ → Bool
+holds n d c hand p = between (d .row n) (heldBy d p c) hand
 
 -- 33: c holds, in any open order, a task x SME to a task y of a's subject group in order b; z = lowest such order, x and y the lowest for it
 unfoldable pub heldSme : ℕ → Conflict
-heldSme c d a b = givenLowestPair 33 (isOpen d) (holds SME c d a b)
+heldSme c d a b = givenLowestPair 33 (isOpen d) (holds SME d c (subjectHand d a b))
 
 -- 34: c holds in order b a task x DME to a task y of a's subject group in the order; z = b
 unfoldable pub heldDme : ℕ → Conflict
-heldDme c d a b = givenPairIn 34 (holds DME c d a b b) b
+heldDme c d a b = givenPairIn 34 (holds DME d c (subjectHand d a b) b) b
 
 -- Conflicts by kind, in the order listed. 4: 20, 21, 23, 24, 25, 26.
 unfoldable pub smeConflicts : List Conflict

@@ -1,4 +1,4 @@
--- Document 01, "Words of the trade": reach, owns, the two groups. What excludes what is said where rule 9 is (Meaning.antt).
+-- Document 01, "Words of the trade": reach, owns, the two groups. What excludes what is said with rule 9, in Meaning.antt.
 -- proofs/TradeLaws.antt shows that each computed set is what the document says of chains.
 use mathlib.Core.Bool.{Bool}
 use Prim.Native.Nat.{ℕ, _^_}

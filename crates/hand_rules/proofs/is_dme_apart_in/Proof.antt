@@ -1,4 +1,5 @@
--- What each subject is noted with, of nothing, is what it holds in the order. An order without tasks is not open.
+-- What each subject is noted with, of nothing, is what it holds in the order, and that joins what is held anywhere. An order without tasks is
+-- not open.
 use mathlib.Core.Path.{_≡_, sym, ap, _∙_}
 use mathlib.Core.Bool.{Bool, true, false, not}
 use Prim.Native.Nat.{ℕ, _<_}
@@ -12,7 +13,7 @@ use Rattle.rules.specs.Numbers.{heldBy}
 use Rattle.rules.specs.Audit.{implies}
 use Rattle.rules.proofs.BookLaws.{read-sized}
 use Rattle.book.specs.Slice.{words, tables}
-use Rattle.hand_rules.proofs.ApartLaws.{all-alike, nothing-held}
+use Rattle.hand_rules.proofs.ApartLaws.{all-alike, shut-noted, nothing-held}
 use borrow.Author.Needs.{needs}
 use Rattle.hand_rules.proofs.is_dme_apart_in.Statement.{statement}
 use Rattle.hand_rules.proofs.is_dme_apart_in.Tie as tie
@@ -34,31 +35,47 @@ row-requires c κs = search needs
 returns : tie.Need-returns
 unfolding isOpen
 returns c =
-    sym (when-shut _ (ap (λ (m : ℕ). not (eqb m 0)) (sym (c .before .row .ensures)) ∙ ap not (eq-eqb _ 0 (c .if1 .taken))))
+    let s = c .before .before .before .args in
+    let sized = read-sized (words (s .book .now)) (λ i h. (c .before .before .shared-slice-known .given i) .fits) in
+    let shut = ap (λ (m : ℕ). not (eqb m 0)) (sym (c .before .row .ensures)) ∙ ap not (eq-eqb _ 0 (c .if1 .taken)) in
+    (sym (when-shut _ shut), (search needs, λ k h. shut-noted (tables (s .book .now)) sized (s .order) k _ h shut))
 
 note-order-requires : tie.Need-note-order-requires
 note-order-requires c κs = search needs
 
+gather-requires : tie.Need-gather-requires
+gather-requires c κs = (c .before .before .note-order .ensures .0, search needs)
+
 are-free-requires : tie.Need-are-free-requires
 are-free-requires c κs =
-    let s = c .before .before .before .before .before .before .args in
+    let start = c .before .before .before .before .before .before .before .before .before in
+    let s = start .args in
     let d = tables (s .book .now) in
-    let sized = read-sized (words (s .book .now)) (λ i h. (c .before .before .before .before .before .shared-slice-known .given i) .fits) in
-    let noted = c .before .note-order .ensures in
-    (search needs, search needs, noted .0, λ k h out. first-noted d (s .order) k h (noted .1 k h) ∙ nothing-held d sized (search needs) (s .order) k h out)
+    let sized = read-sized (words (s .book .now))
+    (λ i h. (c .before .before .before .before .before .before .before .before .shared-slice-known .given i) .fits) in
+    let noted = c .before .before .before .before .note-order .ensures in (
+      search needs,
+      search needs,
+      noted .0,
+      λ k h out.
+          first-noted d (s .order) k h (noted .1 k h) ∙ nothing-held d sized (start .pre .0 .1) (s .order) k h out,
+    )
 
 returns-2 : tie.Need-returns-2
 unfolding isOpen
 returns-2 c =
-    let s = c .before .before .before .before .before .before .before .args in
+    let s = c .before .before .before .before .before .before .before .before .before .before .args in
     let d = tables (s .book .now) in
-    let noted = c .before .before .note-order .ensures in
-    let opened = ap (λ (m : ℕ). not (eqb m 0)) (sym (c .before .before .before .before .before .row .ensures))
-    ∙ ap not (ne-eqb _ 0 (c .before .before .before .before .if1 .left)) in
-    c .are-free .ensures
-    ∙ all-alike (d .row DME) _ (heldBy d (s .order)) (λ k h. first-noted d (s .order) k h (noted .1 k h))
-    ∙ sym (when-open _ opened)
+    let noted = c .before .before .before .before .before .note-order .ensures in
+    let gathered = c .before .before .gather .ensures in
+    let opened = ap (λ (m : ℕ). not (eqb m 0)) (sym (c .before .before .before .before .before .before .before .before .row .ensures))
+    ∙ ap not (ne-eqb _ 0 (c .before .before .before .before .before .before .before .if1 .left)) in (
+      c .are-free .ensures
+          ∙ all-alike (d .row DME) _ (heldBy d (s .order)) (λ k h. first-noted d (s .order) k h (noted .1 k h))
+          ∙ sym (when-open _ opened),
+      (gathered .0, λ k h. gathered .1 k h ∙ ap (bitOr (words (s .anywhere .now) k)) (first-noted d (s .order) k h (noted .1 k h))),
+    )
 
 pub is-dme-apart-in-spec : {M : Type 1} → statement M
 is-dme-apart-in-spec =
-    tie.close (tie.spec row-requires returns note-order-requires are-free-requires returns-2)
+    tie.close (tie.spec row-requires returns note-order-requires gather-requires are-free-requires returns-2)

@@ -6,8 +6,7 @@ use Rattle.sets.specs.Search.{lowest}
 use Rattle.sets.proofs.SearchLaws.{searchRest, search-on, search-at, search-out}
 use Rattle.rules.proofs.BookLaws.{read-sized}
 use Rattle.book.specs.Slice.{words, tables}
-use Rattle.orders.specs.Held.{excludedIn}
-use Rattle.orders.proofs.HoldLaws.{none-excluded, sme-found, none-here, pair-here, sme-told, sme-silent}
+use Rattle.orders.proofs.HoldLaws.{excludedIn, none-excluded, sme-found, none-here, pair-here, sme-told, sme-silent}
 use borrow.Author.Needs.{needs}
 use Rattle.orders.proofs.sme_held.Statement.{statement}
 use Rattle.orders.proofs.sme_held.Tie as tie
