@@ -1,14 +1,16 @@
 -- What makes one word bad, in the steps of the scan: a word of 0 never is, and any other is judged by its place.
 use mathlib.Core.Path.{_≡_, refl, sym, ap, ap₂, _∙_}
 use mathlib.Core.Bool.{Bool, true, false, _&&_, _||_, not}
-use Prim.Native.Nat.{ℕ, zero, suc, _+_, _-_, _%_, _^_, _≤_, _<_}
+use Prim.Native.Nat.{ℕ, zero, suc, _+_, _-_, _*_, _/_, _%_, _^_, _≤_, _<_}
 use native.Mathlib.Omega.{arith}
 use native.Mathlib.Decide.{decLt}
 use lib.Dec.{eqb, ltb, leb}
-use borrow.Author.Tests.{eq-eqb, ne-eqb, eqb-true, lt-ltb, le-ltb, le-leb, lt-leb, not-false}
+use lib.Bits.{bitOr}
+use lib.Pow.{field, mod-mod-pow}
+use borrow.Author.Tests.{eq-eqb, ne-eqb, eqb-true, lt-ltb, le-ltb, ltb-true, le-leb, lt-leb, leb-true, not-false}
 use Rattle.sets.specs.Mask.{bit, within, meet}
-use Rattle.sets.proofs.Logic.{and-fails-l, or-in-l, or-none, not-both, refute, not-in}
-use Rattle.sets.proofs.MaskLaws.{bit-not, bit-lt, zero-none, within-out, within-in, meet-in}
+use Rattle.sets.proofs.Logic.{and-out, and-in, and-fails-l, or-in-l, or-in-r, or-none, not-both, refute, not-in}
+use Rattle.sets.proofs.MaskLaws.{bit-zero, bit-suc, bit-or, bit-one, bit-high, in-one, in-r, bit-not, bit-lt, zero-none, within-out, within-in, meet-in}
 use Rattle.sets.proofs.SearchLaws.{meet-out}
 use Rattle.rules.specs.Book.{Book, roles, subjects, orders, cellOf, roleIn, subjectIn, names, badMask, badCell, badCellAt}
 use Rattle.rules.proofs.BookLaws.{chosen, unchosen}
@@ -26,37 +28,66 @@ module _ {v x : ℕ} (t : Bool) (e : v ≡ x) where
   some-word n = unchosen false t (eqb x 0) (ne-eqb x 0 (λ z. n (e ∙ z)))
 
 -- 0 names nobody, and that is allowed; a number above 64 does not name ..
-names-nobody : (m v : ℕ) → v ≡ 0 → names m v ≡ true
+pub names-nobody : (m v : ℕ) → v ≡ 0 → names m v ≡ true
 unfolding names
 names-nobody m zero e = refl
 names-nobody m (suc v) e = absurd (omega arith)
 
-names-none : (m v : ℕ) → 64 < v → names m v ≡ false
+pub names-none : (m v : ℕ) → 64 < v → names m v ≡ false
 unfolding names
 names-none m zero h = absurd (omega arith)
 names-none m (suc v) h = and-fails-l _ _ (le-ltb v 64 (omega arith))
 
 -- .. and one of 1 to 64 names the number one below it.
-names-one : (m v : ℕ) → (v ≡ 0 → ⊥) → v ≤ 64 → names m v ≡ bit m (v - 1)
+pub names-one : (m v : ℕ) → (v ≡ 0 → ⊥) → v ≤ 64 → names m v ≡ bit m (v - 1)
 unfolding names
 names-one m zero n h = absurd (n refl)
 names-one m (suc v) n h =
     let e : v ≡ suc v - 1 = omega arith in
     ap (λ (t : Bool). t && bit m v) (lt-ltb v 64 (omega arith)) ∙ ap (bit m) e
 
--- Looked up without a branch: at the place one below v, or where v has none at that of another number, which does not count.
-pub names-by : (m v : ℕ) → (eqb v 0 || (leb v 64 && bit m ((v % 64 + 63) % 64))) ≡ names m v
-names-by m v = go (decLt 0 v) (decLt 64 v)
+-- The set m moved up by one has v + 1 where m has v, for what does not fall off ..
+moved-up : (m v : ℕ) → v < 63 → bit ((m * 2 ^ 1) % 2 ^ 64) (suc v) ≡ bit m v
+unfolding bit
+moved-up m v h =
+    let half : (m * 2 ^ 1) % 2 ^ 64 / 2 ≡ m % 2 ^ 63 = omega arith in
+    let at : 63 ≡ (62 - v + 1) + v = omega arith in
+    bit-suc ((m * 2 ^ 1) % 2 ^ 64) v
+    ∙ ap (λ (x : ℕ). eqb (x / 2 ^ v % 2) 1) half
+    ∙ ap (λ (x : ℕ). eqb (x % 2) 1) (ap (λ (k : ℕ). m % 2 ^ k / 2 ^ v) at ∙ field m (62 - v + 1) v)
+    ∙ ap (λ (x : ℕ). eqb x 1) (mod-mod-pow (m / 2 ^ v) (62 - v) 1)
+
+-- .. and it has not 0.
+moved-off : (m : ℕ) → bit ((m * 2 ^ 1) % 2 ^ 64) 0 ≡ false
+moved-off m = let even : (m * 2 ^ 1) % 2 ^ 64 % 2 ≡ 0 = omega arith in bit-zero _ ∙ ap (λ (x : ℕ). eqb x 1) even
+
+-- Where what fell off comes in there, it has all that name one of m, 64 at the place of 0 ..
+names-turned : (m v : ℕ) → m < 2 ^ 64 → 0 < v → v ≤ 64 → bit (bitOr ((m * 2 ^ 1) % 2 ^ 64) (m / 2 ^ 63)) (v % 64) ≡ names m v
+unfolding bit names
+names-turned m zero hm h l = absurd (omega arith)
+names-turned m (suc v) hm h l = go (decLt v 63) ∙ sym (ap (λ (t : Bool). t && bit m v) (lt-ltb v 64 (omega arith)))
   where
-    go : Dec (0 < v) → Dec (64 < v) → (eqb v 0 || (leb v 64 && bit m ((v % 64 + 63) % 64))) ≡ names m v
-    go (no none) past =
-        let z : v ≡ 0 = omega arith in
-        or-in-l (eqb v 0) (leb v 64 && bit m ((v % 64 + 63) % 64)) (eq-eqb v 0 z) ∙ sym (names-nobody m v z)
-    go (yes some) (yes past) = ap₂ _||_ (ne-eqb v 0 (λ z. omega arith)) (and-fails-l (leb v 64) _ (lt-leb v 64 past)) ∙ sym (names-none m v past)
-    go (yes some) (no past) =
-        let e : (v % 64 + 63) % 64 ≡ v - 1 = omega arith in
-        ap₂ _||_ (ne-eqb v 0 (λ z. omega arith)) (ap₂ _&&_ (le-leb v 64 (omega arith)) (ap (bit m) e))
-        ∙ sym (names-one m v (λ z. omega arith) (omega arith))
+    up : ℕ
+    up = (m * 2 ^ 1) % 2 ^ 64
+
+    go : Dec (v < 63) → bit (bitOr up (m / 2 ^ 63)) (suc v % 64) ≡ bit m v
+    go (yes k) =
+        let at : suc v % 64 ≡ suc v = omega arith in
+        ap (bit (bitOr up (m / 2 ^ 63))) at ∙ bit-or up (m / 2 ^ 63) (suc v)
+        ∙ ap₂ _||_ (moved-up m v k) (bit-high 1 (m / 2 ^ 63) (suc v) (omega arith) (omega arith)) ∙ or-none (bit m v)
+    go (no k) =
+        let at : suc v % 64 ≡ 0 = omega arith in
+        let last : 63 ≡ v = omega arith in
+        ap (bit (bitOr up (m / 2 ^ 63))) at ∙ bit-or up (m / 2 ^ 63) 0 ∙ ap₂ _||_ (moved-off m) (bit-zero (m / 2 ^ 63)) ∙ ap (bit m) last
+
+-- .. and where 0 does, below 64 all that name one or nobody.
+pub names-low : (m v : ℕ) → v < 64 → bit (bitOr ((m * 2 ^ 1) % 2 ^ 64) 1) v ≡ names m v
+unfolding names
+names-low m zero h = in-r ((m * 2 ^ 1) % 2 ^ 64) 1 0 (in-one 0)
+names-low m (suc v) h =
+    bit-or ((m * 2 ^ 1) % 2 ^ 64) 1 (suc v)
+    ∙ ap₂ _||_ (moved-up m v (omega arith)) (bit-one 0 (suc v) ∙ ne-eqb 0 (suc v) (λ e. omega arith)) ∙ or-none (bit m v)
+    ∙ sym (ap (λ (t : Bool). t && bit m v) (lt-ltb v 64 (omega arith)))
 
 -- E of a cell is 1 to 64 exactly where the cell is 128 at least, and below 65 times that.
 pub role-by-word : (v : ℕ) {low high : ℕ} → low ≡ cellOf 1 0 → high ≡ cellOf 64 127 → (leb low v && leb v high) ≡ hasRole v
@@ -70,37 +101,46 @@ role-by-word v {low} {high} a b = ap₂ _&&_ (some (decLt v 128)) (most (decLt 8
     most (yes l) = lt-leb v high (omega arith) ∙ sym (lt-leb (roleIn v) 64 (omega arith))
     most (no l) = le-leb v high (omega arith) ∙ sym (le-leb (roleIn v) 64 (omega arith))
 
--- A cell is bad that has no known role of 1 to 64, or whose subject is not known, or that is not of the order's tasks.
-pub bad-by-role : (inOrder : Bool) (R S v : ℕ) → (not inOrder || (not (hasRole v && bit R ((roleIn v % 64 + 63) % 64)) || not (names S (subjectIn v))))
-    ≡ badCell inOrder R S v
+-- A cell is bad outside its order's tasks,
+pub outside-order : (R S v : ℕ) {inOrder : Bool} → inOrder ≡ false → true ≡ badCell inOrder R S v
 unfolding badCell
-bad-by-role inOrder R S v = ap (λ (t : Bool). not inOrder || t) (go (decLt 0 (roleIn v)))
+outside-order R S v e = sym (ap (λ (t : Bool). not t || (not (names R (roleIn v)) || (not (names S (subjectIn v)) || eqb (roleIn v) 0))) e)
+
+-- and where E is not 1 to 64,
+pub without-role : (R S v : ℕ) {inOrder : Bool} → inOrder ≡ true → hasRole v ≡ false → true ≡ badCell inOrder R S v
+unfolding badCell
+without-role R S v e h = go (decLt 0 (roleIn v)) (decLt 64 (roleIn v)) ∙ sym (ap (λ (t : Bool). not t || rest) e)
   where
-    at : ℕ
-    at = (roleIn v % 64 + 63) % 64
+    rest : Bool
+    rest = not (names R (roleIn v)) || (not (names S (subjectIn v)) || eqb (roleIn v) 0)
 
-    goal : Type 0
-    goal = (not (hasRole v && bit R at) || not (names S (subjectIn v))) ≡ (not (names R (roleIn v)) || (not (names S (subjectIn v)) || eqb (roleIn v) 0))
+    go : Dec (0 < roleIn v) → Dec (64 < roleIn v) → true ≡ rest
+    go (no none) past =
+        sym (or-in-r (not (names R (roleIn v))) _ (or-in-r (not (names S (subjectIn v))) (eqb (roleIn v) 0) (eq-eqb (roleIn v) 0 (omega arith))))
+    go (yes some) (yes past) = sym (or-in-l (not (names R (roleIn v))) _ (ap not (names-none R (roleIn v) past)))
+    go (yes some) (no past) = absurd (not-both (hasRole v) (and-in (lt-ltb 0 (roleIn v) some) (le-leb (roleIn v) 64 (omega arith))) h)
 
-    always : (s t : Bool) → (s || (t || true)) ≡ true
-    always true t = refl
-    always false true = refl
-    always false false = refl
+-- and else as its role or its subject is unknown.
+module _ (R S v : ℕ) (hR : R < 2 ^ 64) {inOrder k : Bool} (e : inOrder ≡ true) (h : hasRole v ≡ true)
+    (looked : k ≡ bit (bitOr ((R * 2 ^ 1) % 2 ^ 64) (R / 2 ^ 63)) (roleIn v % 64)) where
+  known : k ≡ names R (roleIn v)
+  known =
+      let x = and-out (ltb 0 (roleIn v)) (leb (roleIn v) 64) h in
+      looked ∙ names-turned R (roleIn v) hR (ltb-true 0 (roleIn v) (x .0)) (leb-true (roleIn v) 64 (x .1))
 
-    go : Dec (0 < roleIn v) → goal
-    go (no none) =
-        let z : roleIn v ≡ 0 = omega arith in
-        (λ i. not (and-fails-l (hasRole v) (bit R at) (and-fails-l (ltb 0 (roleIn v)) (leb (roleIn v) 64) (le-ltb 0 (roleIn v) (omega arith))) i)
-        || not (names S (subjectIn v)))
-        ∙ sym (ap (λ (t : Bool). not (names R (roleIn v)) || (not (names S (subjectIn v)) || t)) (eq-eqb (roleIn v) 0 z)
-        ∙ always (not (names R (roleIn v))) (not (names S (subjectIn v))))
-    go (yes some) =
-        let known : (hasRole v && bit R at) ≡ names R (roleIn v) =
-        ap₂ (λ (x y : Bool). (x && leb (roleIn v) 64) && y) (lt-ltb 0 (roleIn v) some) refl
-        ∙ ap (λ (t : Bool). t || (leb (roleIn v) 64 && bit R at)) (sym (ne-eqb (roleIn v) 0 (λ z. omega arith))) ∙ names-by R (roleIn v) in
-        ap (λ (t : Bool). not t || not (names S (subjectIn v))) known
-        ∙ ap (λ (t : Bool). not (names R (roleIn v)) || t) (sym (ap (λ (t : Bool). not (names S (subjectIn v)) || t) (ne-eqb (roleIn v) 0 (λ z. omega arith))
-        ∙ or-none (not (names S (subjectIn v)))))
+  asked : (not k || not (names S (subjectIn v))) ≡ badCell inOrder R S v
+  unfolding badCell
+  asked =
+      let some = ltb-true 0 (roleIn v) (and-out (ltb 0 (roleIn v)) (leb (roleIn v) 64) h .0) in
+      ap₂ (λ (s t : Bool). not s || t) known
+      (sym (ap (λ (t : Bool). not (names S (subjectIn v)) || t) (ne-eqb (roleIn v) 0 (λ z. omega arith)) ∙ or-none (not (names S (subjectIn v)))))
+      ∙ sym (ap (λ (t : Bool). not t || (not (names R (roleIn v)) || (not (names S (subjectIn v)) || eqb (roleIn v) 0))) e)
+
+  pub role-unknown : k ≡ false → true ≡ badCell inOrder R S v
+  role-unknown f = sym (ap (λ (t : Bool). not t || not (names S (subjectIn v))) f) ∙ asked
+
+  pub role-known : k ≡ true → not (names S (subjectIn v)) ≡ badCell inOrder R S v
+  role-known f = sym (ap (λ (t : Bool). not t || not (names S (subjectIn v))) f) ∙ asked
 
 -- A mask meets all that is not known exactly if it names something that is not known.
 module _ (known v : ℕ) (hk : known < 2 ^ 64) (hv : v < 2 ^ 64) where

@@ -6,12 +6,17 @@ ghost use Rattle.rules.specs.Book.{tableCount, orders, names, badActive, badCel
 ghost use Rattle.book.specs.Slice.{tables, Full};
 ghost use Rattle.scan.specs.Blocks.{hasRole, maskBad, activeBad, rowBad, cellBad, joinedCells};
 
-// Whether v is 0, or one more than a number of the set. What is above 64 is looked up too, at the place of another number, and does not
-// count: so the tests can be joined.
+// Whether v is 0, or one more than a number of the set.
 fn is_in(set: u64, v: u64) -> bool
     ensures { λ r. ⌜ r ≡ names set v ⌝ }
 {
-    (v == 0) | ((v <= 64) & sets::has(set, (v % 64 + 63) % 64))
+    if v == 0 {
+        return true;
+    }
+    if v > 64 {
+        return false;
+    }
+    sets::has(set, v - 1)
 }
 
 // Whether an active role is bad: its subject is undefined, or no known role has this number.
@@ -21,20 +26,32 @@ fn is_bad_active(defined: bool, known: u64, v: u64) -> bool
     !defined | !is_in(known, v)
 }
 
-// Whether E of a cell is one more than a number of 0 to 63. Asked of the whole word, that is two tests and no division.
+// Whether E of a cell is one more than a number of 0 to 63. Asked of the whole word, that is one test and no division.
 fn has_role(v: u64) -> bool
     ensures { λ r. ⌜ r ≡ hasRole v ⌝ }
 {
     (v >= book::cell_of(1, 0)) & (v <= book::cell_of(64, 127))
 }
 
-// Whether a cell is bad in which something stands: it has a role then, since a subject never stands there alone. The tests are joined,
-// since the compiler makes fewer branches of that; without a role the number that is looked up does not count.
+// Whether a cell is bad in which something stands. E and S are one more than what they name, so they are looked up in the sets moved up by one.
+// For E what falls off at the end comes in at the beginning. For S that is the place of 0, which is always in; so 64 is asked for apart.
 fn is_bad_cell(in_order: bool, roles: u64, subjects: u64, v: u64) -> bool
     ensures { λ r. ⌜ r ≡ badCell in_order roles subjects v ⌝ }
 {
-    let known = has_role(v) & sets::has(roles, (book::role_in(v) % 64 + 63) % 64);
-    !in_order | (!known | !is_in(subjects, book::subject_in(v)))
+    if !in_order {
+        return true;
+    }
+    if !has_role(v) {
+        return true;
+    }
+    if !sets::has((roles << 1) | (roles >> 63), book::role_in(v) % 64) {
+        return true;
+    }
+    let subject = book::subject_in(v);
+    if subject >= 64 {
+        return !is_in(subjects, subject);
+    }
+    !sets::has((subjects << 1) | 1, subject)
 }
 
 // Whether row r of a table of masks is bad: of an undefined owner any but 0 is, of a defined one what names something that is not known.
