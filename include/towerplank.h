@@ -87,7 +87,7 @@
     ROW(1, DEFINE_TASK, "define task a") \
     ROW(2, DEFINE_ROLE, "define role a") \
     ROW(3, DEFINE_SUBJECT, "define person a") \
-    ROW(4, SME, "nobody may own both task a and task b (SME)") \
+    ROW(4, SME, "nobody may own both task a and task b nor hold both in open orders (SME)") \
     ROW(5, DME, "nobody may do both task a and task b in one order (DME)") \
     ROW(6, RB, "in one order, task a and task b are done in one role (RB)") \
     ROW(7, SB, "in one order, task a and task b are done by one person (SB)") \

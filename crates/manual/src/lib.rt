@@ -33,7 +33,7 @@ fn line(paper: &mut [u8], row: u64) {
           |   1  define-task TASK                define a task\n\
           |   2  define-role ROLE                define a role\n\
           |   3  define-subject PERSON           define a person; also define-person\n\
-          |   4  sme TASK TASK                   nobody may own both; also exclude-static\n\
+          |   4  sme TASK TASK                   nobody may own both, nor hold both in open orders; also exclude-static\n\
           |   5  dme TASK TASK                   nobody may do both in one order; also exclude-dynamic\n\
           |   6  rb TASK TASK                    in one order both are done in one role; also bind-role\n\
           |   7  sb TASK TASK                    in one order both are done by one person; also bind-subject\n\

@@ -10,7 +10,7 @@ pub fn accepted(paper: &mut [u8], names: &[u8], v: Facts) {
         b"|accepted: task %ta is defined\
           |accepted: role %ra is defined\
           |accepted: person %pa is defined\
-          |accepted: nobody may own both task %ta and task %tb (SME)\
+          |accepted: nobody may own both task %ta and task %tb, nor hold both in open orders (SME)\
           |accepted: nobody may do both task %ta and task %tb in one order (DME)\
           |accepted: in one order, task %ta and task %tb are done in one role (RB)\
           |accepted: in one order, task %ta and task %tb are done by one person (SB)\
