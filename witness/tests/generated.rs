@@ -254,7 +254,7 @@ fn hands_in_several_orders_are_met_in_every_way() {
             ways.into_iter().for_each(|(way, met)| *times.entry(way).or_default() += u64::from(met));
         }
     });
-    assert!(times.len() == 10 + 7 && times.values().all(|&times| times >= 8), "{times:#?}");
+    assert!(times.len() == 14 + 7 && times.values().all(|&times| times >= 8), "{times:#?}");
 }
 
 fn ways_of_33(words: &[u64], [a, b, c]: [u64; 3], [x, y, z]: [u64; 3]) -> Vec<(&'static str, bool)> {
@@ -272,6 +272,10 @@ fn ways_of_33(words: &[u64], [a, b, c]: [u64; 3], [x, y, z]: [u64; 3]) -> Vec<(&
         ("z below b, which counts too", z < b && sme.iter().any(|sme| sme.0 == b)),
         ("a lower x in a higher order", sme.iter().any(|sme| sme.1 < x)),
         ("x has several partners", sme.iter().filter(|sme| (sme.0, sme.1) == (z, x)).count() > 1),
+        ("a lower task held in z, without a partner", (0..x).any(|t| by_c(words[(580 + 64 * z + t) as usize] % 128))),
+        ("a higher task held in z, with a lower partner", sme.iter().any(|sme| sme.0 == z && sme.2 < y)),
+        ("x is y", x == y),
+        ("x and y are DME too", has(words, DME + x, y)),
         ("z is not b, in which there is a 34", z != b && dme_in_b),
         ("a lower z, x or y, but outside order b", not_got.iter().any(|sme| *sme < (z, x, y))),
     ]

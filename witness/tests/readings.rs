@@ -400,6 +400,9 @@ fn any_33_comes_before_34() {
     hold(&mut book, 60, 11, 0);
     assert_eq!(asked(&book, 13, 0, 4, 0), (33, 11, 3, 60));
     assert_eq!(asked(&book, 13, 3, 4, 0), (33, 11, 3, 60));
+    // One pair both ways, which only an unsound book has.
+    book.sme[1].put(0);
+    assert_eq!(asked(&book, 13, 0, 4, 0), (33, 1, 0, 4));
 }
 
 /// M-104: DME counts inside order b alone, and that is the order told.

@@ -63,10 +63,10 @@ fn give_subject_a_pair(scene: &mut Scene, u: usize, v: usize) {
 fn give_both_to_one(scene: &mut Scene, u: usize, v: usize) {
     let subject = scene.subject();
     let (one, other, third) = (scene.order(), scene.order(), scene.order());
-    let (pair, orders_of_v) = match scene.chance.below(6) {
-        0 => (Pair::Sme, vec![one]),
-        1 => (Pair::Dme, vec![one]),
-        2 => (Pair::Sme, vec![other, third]),
+    let (pair, orders_of_v) = match scene.chance.below(7) {
+        0 | 1 => (Pair::Sme, vec![one]),
+        2 => (Pair::Dme, vec![one]),
+        3 => (Pair::Sme, vec![other, third]),
         _ => (Pair::Sme, vec![other]),
     };
     scene.join(pair, u, v);

@@ -7,15 +7,19 @@ use super::situations::{hold_excluding, job, Job};
 use crate::book::{Book, Cell};
 use crate::trade::{subject_group, tasks_owned_by_role};
 
-/// Number 33: in one to three orders the subject holds a task or two that are SME to something it would get, so that
+/// Number 33: in one to three orders the subject holds one to three tasks that are SME to something it would get, so that
 /// the lowest order, then the lowest task and its lowest partner have to be found. Often there is a 34 besides.
 pub fn hold_in_several_orders(scene: &mut Scene, job: &Job) {
     for order in some_orders(scene, job) {
-        for _ in 0..scene.chance.between(1, 2) {
+        for _ in 0..scene.chance.between(1, 3) {
             let held = some_task_to_hold(scene, job, order);
             for _ in 0..scene.chance.between(1, 3) {
                 let y = scene.chance.pick(&job.bound);
                 scene.join(Pair::Sme, held, y);
+                // Both in one row, now and then, which only an unsound book has.
+                if scene.chance.percent(10) {
+                    scene.join(Pair::Dme, held, y);
+                }
             }
             if scene.chance.percent(40) {
                 join_outside(scene, job, order, held);
@@ -49,7 +53,7 @@ fn some_orders(scene: &mut Scene, job: &Job) -> Vec<usize> {
 fn some_task_to_hold(scene: &mut Scene, job: &Job, order: usize) -> usize {
     let (new, member) = (scene.task(), scene.chance.pick(&job.bound));
     match scene.chance.below(10) {
-        0 if order != job.order || member != job.task => return member,
+        0 | 1 if order != job.order || member != job.task => return member,
         1..=3 => {
             let other = scene.subject();
             let subject = scene.chance.pick(&[None, Some(other)]);
