@@ -284,17 +284,19 @@ no_trace "the two bits of a pair taken back in the other order" Requests.antt \
 
 mistell "33 that names no order" Numbers.antt '(sayPair n (f p) p)' '(sayPair n (f p) 0)'
 mistell "33 that names the highest order" Numbers.antt \
-    'let p = lowest (λ p. asked p && somePair (f p)) in' \
-    'let q = lowest (λ p. asked (63 - p) && somePair (f (63 - p))) in
+    'let p = lowest (hasPair asked f) in' \
+    'let q = lowest (λ p. hasPair asked f (63 - p)) in
         let p : ℕ = elim (ltb q 64) [ true ↦ 63 - q | false ↦ 64 ] in'
 mistell "33 with x the lowest that is held in any order" Numbers.antt \
     'heldSme c d a b = givenLowestPair 33 (isOpen d) (holds SME d c (subjectHand d a b))' \
     'heldSme c d a b rest =
-        let p = lowest (λ p. isOpen d p && somePair (holds SME d c (subjectHand d a b) p)) in
+        let p = lowest (hasPair (isOpen d) (holds SME d c (subjectHand d a b))) in
         let held = joined 64 (λ p. only (isOpen d p) (heldBy d p c)) (2 ^ 64 - 1) in
         given (ltb p 64) (sayPair 33 (between (d .row SME) held (subjectHand d a b)) p) rest'
 mistell "33 and 34 with the highest partner" Numbers.antt \
     'sayXYZ n i (lowest (f i)) z' 'sayXYZ n i (63 - lowest (λ v. f i (63 - v))) z'
+mistell "33 and 34 with the lowest partner of anything that is held" Numbers.antt \
+    'sayXYZ n i (lowest (f i)) z' 'sayXYZ n i (lowest (λ v. ltb (lowest (λ u. f u v)) 64)) z'
 mistell "33 and 34 of a partner in whose row the held task is" Numbers.antt \
     'between (d .row n) (heldBy d p c) hand' '(λ u v. between (d .row n) hand (heldBy d p c) v u)'
 mistell "33 after 34" Numbers.antt 'heldSme c ∷ heldDme c ∷ []' 'heldDme c ∷ heldSme c ∷ []'

@@ -1,7 +1,7 @@
 -- No answer but 0 has the number 0. Every refusal, every conflict and every finding is given with a number of its own, and what is given
 -- is one of these or the rest; so it goes along the definitions, list by list.
 use mathlib.Core.Path.{_≡_, refl, sym, ap, _∙_}
-use mathlib.Core.Bool.{Bool, true, false, _&&_, not}
+use mathlib.Core.Bool.{Bool, true, false, not}
 use mathlib.Core.List.{List, [], _∷_}
 use Prim.Native.Nat.{ℕ, _+_, _<_}
 use native.Mathlib.Omega.{arith}
@@ -11,7 +11,7 @@ use Rattle.sets.specs.Search.{lowest}
 use Rattle.rules.specs.Book.{Book, bookWords, read, firstBad}
 use Rattle.rules.specs.Requests.{Request, Deed, nothing, define, relate, assign, activate, openOrder, allocate, closeOrder, takeBack, unrelate}
 use Rattle.rules.specs.Requests.{rowOf}
-use Rattle.rules.specs.Numbers.{Said, accepted, says, say, numberOf, given, givenLowest, somePair, givenPairIn, givenLowestPair}
+use Rattle.rules.specs.Numbers.{Said, accepted, says, say, numberOf, given, givenLowest, somePair, givenPairIn, hasPair, givenLowestPair}
 use Rattle.rules.specs.Numbers.{argumentFault, allocateRefusal, stateRefusal, refusal}
 use Rattle.rules.specs.Numbers.{Conflict, selfConstraint, alreadyDme, alreadySme, oneSubjectGroup, oneRoleGroup, roleOwnsBoth, subjectOwnsBoth}
 use Rattle.rules.specs.Numbers.{smeBetweenGroups, dmeBetweenGroups, selfInheritance, cycle, taskAssignment, roleAssignment, ownRoleAssignment}
@@ -44,7 +44,7 @@ pair-numbered n f z rest h y = given-numbered (somePair f) _ rest h y
 lowest-pair-numbered : (n : ℕ) (asked : ℕ → Bool) (f : ℕ → ℕ → ℕ → Bool) (rest : Said) → 0 < n → Numbered rest
     → Numbered (givenLowestPair n asked f rest)
 unfolding givenLowestPair
-lowest-pair-numbered n asked f rest h y = given-numbered (ltb (lowest (λ p. asked p && somePair (f p))) 64) _ rest h y
+lowest-pair-numbered n asked f rest h y = given-numbered (ltb (lowest (hasPair asked f)) 64) _ rest h y
 
 -- The refusals 3 to 11.
 allocate-numbered : (d : Book) (a b c : ℕ) → Numbered (allocateRefusal d a b c)

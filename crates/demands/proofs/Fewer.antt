@@ -65,7 +65,7 @@ module _ (d : Book) (rows : ℕ → ℕ → ℕ) (sound : Sound d) (fewer : (n u
   orders-fewer = let was = sound .orders in record {
     orders-formed = was .orders-formed;
     cells-formed = was .cells-formed;
-    rule9 = hands-stay (record { held = λ p t i h. (i, refl); excluded = λ p q u v i j. excludes p q u v }) (was .rule9);
+    rule9 = hands-stay (record { held = λ p t i h. (i, refl); excluded = excludes }) (was .rule9);
     rule10-subject = λ p u v both c. was .rule10-subject p u v both (chain-map (fewer SB) c);
     rule10-role = λ p u v both c. was .rule10-role p u v both (chain-map binds c);
   }

@@ -2,7 +2,7 @@
 -- orders and what excludes as they are, or hands nothing out; and where it adds a pair no order is open.
 use mathlib.Core.Path.{_≡_, refl, sym, ap, _∙_, subst}
 use mathlib.Core.Logic.{_↔_, _⊎_, inl, inr}
-use mathlib.Core.Bool.{Bool, true, false, _&&_}
+use mathlib.Core.Bool.{Bool, true, false}
 use Prim.Native.Nat.{ℕ}
 use native.Mathlib.Omega.{arith}
 use lib.Dec.{ltb}
@@ -10,8 +10,8 @@ use Rattle.sets.specs.Search.{lowest, all}
 use Rattle.chains.specs.Relation.{Step}
 use Rattle.rules.specs.Book.{Book, bookWords, SME, DME, orders, read, firstBad}
 use Rattle.rules.specs.Requests.{Request, aTask, aSubject, Row, allocate, table, rowOf, isOpen, subjectHand, change}
-use Rattle.rules.specs.Numbers.{Named, Said, accepted, says, sayX, numberOf, given, somePair, givenPairIn, givenLowestPair, stateRefusal, refusal}
-use Rattle.rules.specs.Numbers.{holds, heldSme, heldDme, heldConflicts, conflicts, firstOf, conflict, orElse, judge, blind, answer}
+use Rattle.rules.specs.Numbers.{Named, Said, accepted, says, sayX, numberOf, given, somePair, givenPairIn, hasPair, givenLowestPair, stateRefusal}
+use Rattle.rules.specs.Numbers.{refusal, holds, heldSme, heldDme, heldConflicts, conflicts, firstOf, conflict, orElse, judge, blind, answer}
 use Rattle.rules.specs.Meaning.{Sized, Keeps, Sound}
 use Rattle.rules.proofs.SaidLaws.{said-not-accepted}
 use Rattle.rules.proofs.NumberLaws.{given-out, Fitting, refusal-out}
@@ -25,6 +25,7 @@ use Rattle.demands.specs.Demand3.{Passes, Unrefused}
 use Rattle.demands.specs.Hands.{HandsKept, numberTold, AllocationBreaks, OthersKeep}
 use Rattle.demands.proofs.OneKind.{one-kind}
 use Rattle.demands.proofs.RowChanges.{table-before}
+use Rattle.demands.proofs.HeldHands.{none-open}
 use Rattle.demands.proofs.Allocation.{allocate-hands}
 use Rattle.demands.proofs.EveryKind.{shut, deed-exact}
 use Rattle.demands.proofs.Demand3.{whole-answer}
@@ -40,7 +41,7 @@ numbered : (d : Book) (a b c : ℕ) {s : Said} → s ≡ firstOf (heldConflicts 
 unfolding firstOf heldConflicts heldSme heldDme givenLowestPair givenPairIn given
 numbered d a b c {s} e =
     let hand = subjectHand d a b in
-    go (ltb (lowest (λ p. isOpen d p && somePair (holds SME d c hand p))) 64) (somePair (holds DME d c hand b)) _ _ e
+    go (ltb (lowest (hasPair (isOpen d) (holds SME d c hand))) 64) (somePair (holds DME d c hand b)) _ _ e
   where
     go : (t u : Bool) (x y : Named) → s ≡ (elim t [ true ↦ says 33 x | false ↦ elim u [ true ↦ says 34 y | false ↦ accepted ] ])
         → (s ≡ accepted) ⊎ ((numberOf s ≡ 33) ⊎ (numberOf s ≡ 34))
@@ -102,8 +103,8 @@ unfolding change stateRefusal conflicts firstOf
 others d sized sound a b c no-kind n f e = absurd (said-not-accepted e)
 others d sized sound a b c (defines m h) n f e = sound .orders .rule9
 others d sized sound a b c (relates m h) n f e =
-    let other = table-before d m orders _ (omega arith) in
-    λ p q u v i. absurd (shut d sized sound a b c (given-out _ 5 _ _ e .1) p u (subst (λ (g : ℕ → ℕ). Step g p u) other i))
+    let same = table-before d m orders _ (omega arith) in
+    none-open _ _ _ (λ p t i. shut d sized sound a b c (given-out _ 5 _ _ e .1) p t (subst (λ (g : ℕ → ℕ). Step g p t) same i))
 others d sized sound a b c (assigns a-task) n f e = sound .orders .rule9
 others d sized sound a b c (assigns a-junior) n f e = sound .orders .rule9
 others d sized sound a b c (assigns a-role) n f e = sound .orders .rule9

@@ -1,7 +1,6 @@
 -- Kinds 4 to 7: a pair is added to one of the four pair tables, while no order is open.
 -- Rules 9 and 10 then have nothing to say. Rules 1 and 2 ask of every table that a and b are two tasks (20).
 -- For rules 3, 4, 5, 7 and 8 the two laws of PairRules are cited: SME and DME are excluding relations, RB and SB bind.
-use mathlib.Core.Path.{refl}
 use Prim.Native.Nat.{ℕ, zero, suc, _<_}
 use native.Mathlib.Omega.{arith}
 use Rattle.chains.specs.Relation.{Relation, In, Step}
@@ -14,7 +13,7 @@ use Rattle.rules.specs.Numbers.{selfConstraint, alreadyDme, alreadySme, oneSubj
 use Rattle.rules.specs.Numbers.{smeBetweenGroups, dmeBetweenGroups}
 use Rattle.rules.specs.Meaning.{Sized, PairFree, OwnedFrom, OwnersFree, Orders, Sound}
 use Rattle.demands.proofs.PairRules.{Adds, pair-kept, pair-needed, groups-kept, groups-needed, groups-pair}
-use Rattle.demands.proofs.HeldHands.{hands-stay}
+use Rattle.demands.proofs.HeldHands.{none-open}
 use Rattle.demands.proofs.RowChanges.{pair-adds, pair-table, pair-two}
 use Rattle.demands.proofs.Tables.{first-adds, second-adds, subject-role, role-turns}
 use Rattle.demands.proofs.Conflicts.{one-silent, more-silent, Exact, exact, NoneOwnsBoth, silent-self, silent-dme, silent-sme}
@@ -27,7 +26,7 @@ module _ {T R S : ℕ} {x y r s o : ℕ → ℕ} {cell : ℕ → ℕ → ℕ} (s
   shut-orders x′ y′ r′ s′ was = record {
     orders-formed = was .orders-formed;
     cells-formed = was .cells-formed;
-    rule9 = hands-stay (record { held = λ p t i h. (i, refl); excluded = λ p q u v i j x. absurd (shut p u i) }) (was .rule9);
+    rule9 = none-open o cell _ shut;
     rule10-subject = λ p u v both. absurd (shut p u (both .0));
     rule10-role = λ p u v both. absurd (shut p u (both .0));
   }

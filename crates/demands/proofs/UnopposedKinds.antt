@@ -135,7 +135,7 @@ module _ (d : Book) (sound : Sound d) (a b c : ℕ) where
         cells-formed =
             by-order (λ q o k. (t : ℕ) → CellWord (roles d) (subjects d) o t (k t))
             (empty-cell (roles d) (subjects d) m) (sound .orders .cells-formed);
-        rule9 = hands-stay (record { held = still-held; excluded = λ q r u v i j x. x }) (sound .orders .rule9);
+        rule9 = hands-stay (record { held = still-held; excluded = λ q r u v x. x }) (sound .orders .rule9);
         rule10-subject = one-value (SubjectBound d) subjectIn (sound .orders .rule10-subject);
         rule10-role = one-value (RoleBound d) roleIn (sound .orders .rule10-role);
       };

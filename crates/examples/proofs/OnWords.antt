@@ -9,7 +9,6 @@ use Rattle.sets.proofs.Logic.{and-out}
 use Rattle.rules.specs.Book.{Book, bookWords, read, write}
 use Rattle.rules.specs.Requests.{Request}
 use Rattle.rules.specs.Numbers.{Said, accepted, says, given, judge, kept, answer, wordsAfter}
-use Rattle.rules.specs.Audit.{audited}
 use Rattle.rules.specs.Meaning.{Sized}
 use Rattle.rules.proofs.NumberLaws.{judge-out}
 use Rattle.rules.proofs.BookLaws.{read-sized, write-read}
@@ -17,9 +16,9 @@ use Rattle.rules.proofs.ChangeLaws.{blind-sized, changed-book}
 use Rattle.rules.specs.Small.{Word, bookOf, small}
 use Rattle.rules.proofs.SmallLaws.{small-fits}
 use Rattle.examples.specs.Examples.{Step, Run, same, stand, goes, allGo, examples}
-use Rattle.examples.specs.SeveralOrders.{severalOrders, Found, allFound, findings}
-use Rattle.examples.specs.Hold.{examples-hold, several-orders-hold, findings-hold}
-use Rattle.examples.specs.OnWords.{Stand, Goes, AllGo, ExamplesOnWords, SeveralOnWords, AllFound, FindingsOnWords}
+use Rattle.examples.specs.SeveralOrders.{severalOrders}
+use Rattle.examples.specs.Hold.{examples-hold, several-orders-hold}
+use Rattle.examples.specs.OnWords.{Stand, Goes, AllGo, ExamplesOnWords, SeveralOnWords}
 
 -- What a test that passed leaves.
 passed : (t : Bool) → T t → t ≡ true
@@ -93,17 +92,6 @@ all-on-words (r ∷ rs) e =
 pub examples-on-words : ExamplesOnWords
 examples-on-words = all-on-words examples (passed (allGo examples) examples-hold)
 
--- So do the runs of M-104 ..
+-- So do the runs of M-104.
 pub several-on-words : SeveralOnWords
 several-on-words = all-on-words severalOrders (passed (allGo severalOrders) several-orders-hold)
-
--- .. and its audits.
-all-found : (fs : List Found) → allFound fs ≡ true → AllFound fs
-all-found [] e = tt
-all-found (f ∷ fs) e =
-    let told = audited bookWords (bookOf (f .book)) in
-    let p = went-on (small (f .book) && same told (f .answer)) (allFound fs) e in
-    (same-out told (f .answer) (and-out (small (f .book)) _ (p .0) .1), all-found fs (p .1))
-
-pub findings-on-words : FindingsOnWords
-findings-on-words = all-found findings (passed (allFound findings) findings-hold)

@@ -2,19 +2,14 @@
 use lib.Dec.{T}
 use Rattle.rules.specs.Computed.{computed}
 use Rattle.examples.specs.Examples.{allGo, examples}
-use Rattle.examples.specs.SeveralOrders.{severalOrders, allFound, findings}
+use Rattle.examples.specs.SeveralOrders.{severalOrders}
 
 -- P1 to P14.
 pub examples-hold : T (allGo examples)
 unfolding computed
 examples-hold = tt
 
--- The runs of M-104 ..
+-- The runs of M-104.
 pub several-orders-hold : T (allGo severalOrders)
 unfolding computed
 several-orders-hold = tt
-
--- .. and its audits.
-pub findings-hold : T (allFound findings)
-unfolding computed
-findings-hold = tt

@@ -6,9 +6,8 @@ use Prim.Native.Nat.{ℕ}
 use Rattle.rules.specs.Book.{bookWords}
 use Rattle.rules.specs.Numbers.{answer, wordsAfter}
 use Rattle.rules.specs.Small.{Word, bookOf}
-use Rattle.rules.specs.Audit.{audited}
 use Rattle.examples.specs.Examples.{Step, Run, examples}
-use Rattle.examples.specs.SeveralOrders.{severalOrders, Found, findings}
+use Rattle.examples.specs.SeveralOrders.{severalOrders}
 
 -- the words listed stand in the book w
 abbrev pub Stand : (ℕ → ℕ) → List Word → Type 0
@@ -31,14 +30,6 @@ AllGo (r ∷ rs) = Goes (bookOf (r .start)) (r .steps) × AllGo rs
 abbrev pub ExamplesOnWords : Type 0
 ExamplesOnWords = AllGo examples
 
--- So do the runs of M-104 ..
+-- So do the runs of M-104.
 abbrev pub SeveralOnWords : Type 0
 SeveralOnWords = AllGo severalOrders
-
--- .. and its audits.
-abbrev pub AllFound : List Found → Type 0
-AllFound [] = Unit {0}
-AllFound (f ∷ fs) = (audited bookWords (bookOf (f .book)) ≡ f .answer) × AllFound fs
-
-abbrev pub FindingsOnWords : Type 0
-FindingsOnWords = AllFound findings

@@ -1,14 +1,12 @@
 // Kinds 12, 13 and 14, on a book whose arguments fit: open an order, allocate a task in it, close it.
 // Each judges first, on the book as it stands, and writes in place only where the answer is 0.
 use answers::Answer;
-use search::Found;
 ghost use mathlib.Core.Path.{_≡_};
 ghost use Prim.Native.Nat.{_-_, _≤_, _<_};
 ghost use Rattle.sets.specs.Search.{lowest};
 ghost use Rattle.rules.specs.Trade.{role, ownedTasks};
-ghost use Rattle.rules.specs.Book.{SME, DME};
-ghost use Rattle.rules.specs.Requests.{openOrder, allocate, closeOrder, isOpen, roleHand};
-ghost use Rattle.rules.specs.Numbers.{accepted, givenPairIn, givenLowestPair, outside, cellRefusal, allocateRefusal, holds, heldConflicts, firstOf};
+ghost use Rattle.rules.specs.Requests.{openOrder, allocate, closeOrder, roleHand};
+ghost use Rattle.rules.specs.Numbers.{outside, cellRefusal, allocateRefusal};
 ghost use Rattle.book.specs.Slice.{tables, Full, WellFormed};
 ghost use Rattle.answers.specs.Answers.{said};
 ghost use Rattle.deeds.specs.Outcome.{decide, Settled};
@@ -79,49 +77,6 @@ fn allocate_refusal(book: &[u64], a: u64, b: u64, c: u64) -> Answer
     cell_refusal(book, a, b, book::row(book, book::ACTIVE, c))
 }
 
-// Kind 13: 33, between what c holds in each order and the tasks that c would get. The tasks that are SME to one of these are found once.
-fn sme_held(book: &[u64], c: u64, hand: u64) -> Answer
-    requires { ⌜ WellFormed (now book) × (c < 64) ⌝ }
-    ensures { λ r. ⌜ said r ≡ givenLowestPair 33 (isOpen (tables (now (book .entry)))) (holds SME (tables (now (book .entry))) c hand) accepted ⌝ }
-{
-    let excluded = search::meeting(book, book::SME, book::head(book, book::TASKS), hand);
-    if excluded == 0 {
-        return Answer::Accepted;
-    }
-    for order in 0..64 {
-        let held = hands::held_among(book, order, c, excluded);
-        if let Found::Pair(x, y) = search::first_pair(book, book::SME, held, hand) {
-            return Answer::HoldsSme(x, y, order);
-        }
-    }
-    Answer::Accepted
-}
-
-// Kind 13: 34, between what c holds in order b and the tasks that c would get there.
-fn dme_held(book: &[u64], b: u64, c: u64, hand: u64) -> Answer
-    requires { ⌜ Full (now book) × (b < 64) × (c < 64) ⌝ }
-    ensures { λ r. ⌜ said r ≡ givenPairIn 34 (holds DME (tables (now (book .entry))) c hand b) b accepted ⌝ }
-{
-    let held = hands::held_among(book, b, c, !0);
-    if let Found::Pair(x, y) = search::first_pair(book, book::DME, held, hand) {
-        return Answer::HoldsDme(x, y, b);
-    }
-    Answer::Accepted
-}
-
-// Kind 13: 33 of all open orders, then 34 of order b; what c would get is a's subject group there.
-fn allocate_conflict(book: &[u64], a: u64, b: u64, c: u64) -> Answer
-    requires { ⌜ WellFormed (now book) × (a < 64) × (b < 64) × (c < 64) ⌝ }
-    ensures { λ r. ⌜ said r ≡ firstOf (heldConflicts c) (tables (now (book .entry))) a b ⌝ }
-{
-    let hand = hands::subject_hand(book, a, b);
-    let sme = sme_held(book, c, hand);
-    if !answers::is_accepted(sme) {
-        return sme;
-    }
-    dme_held(book, b, c, hand)
-}
-
 // Kind 13: the answer, on the book as it stands.
 fn judge_allocation(book: &[u64], a: u64, b: u64, c: u64) -> Answer
     requires { ⌜ WellFormed (now book) × (a < 64) × (b < 64) × (c < 64) ⌝ }
@@ -131,7 +86,7 @@ fn judge_allocation(book: &[u64], a: u64, b: u64, c: u64) -> Answer
     if !answers::is_accepted(refusal) {
         return refusal;
     }
-    allocate_conflict(book, a, b, c)
+    holdings::allocate_conflict(book, a, b, c)
 }
 
 // Kind 13: allocate task a in order b to subject c.

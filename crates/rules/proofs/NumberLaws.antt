@@ -1,7 +1,7 @@
 -- What the answer 0 says: each test on the way fails, and the rest gives 0 too; and back.
 -- Every refusal and conflict is asked by `given`, `givenLowest`, `givenPairIn` or `givenLowestPair`, so these laws read all of them.
 use mathlib.Core.Path.{_≡_, refl, ap, _∙_}
-use mathlib.Core.Bool.{Bool, true, false, _&&_, not}
+use mathlib.Core.Bool.{Bool, true, false, not}
 use Prim.Native.Nat.{ℕ, _<_}
 use lib.Dec.{ltb}
 use borrow.Author.Tests.{not-false}
@@ -10,7 +10,7 @@ use Rattle.sets.proofs.Logic.{and-out, and-in, not-both, refute}
 use Rattle.sets.proofs.SearchLaws.{none-passes, none-found, no-pair, pair-none}
 use Rattle.rules.specs.Book.{Book, bookWords, firstBad}
 use Rattle.rules.specs.Requests.{Request, Row, rowOf, fits}
-use Rattle.rules.specs.Numbers.{Named, Said, accepted, says, given, givenLowest, somePair, givenPairIn, givenLowestPair}
+use Rattle.rules.specs.Numbers.{Named, Said, accepted, says, given, givenLowest, somePair, givenPairIn, hasPair, givenLowestPair}
 use Rattle.rules.specs.Numbers.{argumentFault, stateRefusal, refusal, conflict, orElse, judge}
 use Rattle.rules.proofs.SaidLaws.{said-not-accepted}
 
@@ -52,15 +52,14 @@ pub lowest-pair-out : (n : ℕ) (asked : ℕ → Bool) (f : ℕ → ℕ → ℕ 
     → ((p u v : ℕ) → p < 64 → u < 64 → v < 64 → asked p ≡ true → f p u v ≡ false) × (rest ≡ accepted)
 unfolding givenLowestPair
 lowest-pair-out n asked f rest e =
-    let has : ℕ → Bool = λ p. asked p && somePair (f p) in
-    let g = given-out (ltb (lowest has) 64) n _ rest e in
-    (λ p u v h hu hv q. no-pair (f p) (refute _ (λ s. not-both _ (and-in q s) (none-passes has (g .0) p h))) u v hu hv, g .1)
+    let g = given-out (ltb (lowest (hasPair asked f)) 64) n _ rest e in
+    (λ p u v h hu hv q. no-pair (f p) (refute _ (λ s. not-both _ (and-in q s) (none-passes (hasPair asked f) (g .0) p h))) u v hu hv, g .1)
 
 -- .. and back.
 pub lowest-pair-in : (n : ℕ) (asked : ℕ → Bool) (f : ℕ → ℕ → ℕ → Bool) (rest : Said)
     → ((p u v : ℕ) → p < 64 → u < 64 → v < 64 → asked p ≡ true → f p u v ≡ false) → rest ≡ accepted → givenLowestPair n asked f rest ≡ accepted
 unfolding givenLowestPair
-lowest-pair-in n asked f rest h e = given-in _ _ rest (none-found (λ p. asked p && somePair (f p)) (λ p hp.
+lowest-pair-in n asked f rest h e = given-in _ _ rest (none-found (hasPair asked f) (λ p hp.
     refute _ (λ s. let x = and-out (asked p) (somePair (f p)) s in not-both _ (x .1) (pair-none (f p) (λ u v hu hv. h p u v hp hu hv (x .0)))))) e
 
 -- The first of two answers that is not 0: 0 where both are ..

@@ -31,7 +31,7 @@ module _ {rows : ℕ → ℕ} (t : Tall rows) where
   step-to i j e = bit-lt (rows i) j (t .fits i) e
 
 -- The rows of two tables mixed.
-pub mixed-tall : {s r : ℕ → ℕ} → Tall s → Tall r → Tall (λ u. bitOr (s u) (r u))
+mixed-tall : {s r : ℕ → ℕ} → Tall s → Tall r → Tall (λ u. bitOr (s u) (r u))
 mixed-tall {s} {r} x y = record {
   fits = λ u. or-lt 64 (s u) (r u) (x .fits u) (y .fits u);
   ends = λ u h. rw (x .ends u h, y .ends u h);
@@ -54,7 +54,7 @@ group-shows {rows} t = record {
 }
 
 -- A step of two tables mixed is a step of either ..
-pub mixed-out : (s r : ℕ → ℕ) (u v : ℕ) → Step (λ x. bitOr (s x) (r x)) u v → Mixed s r u v
+mixed-out : (s r : ℕ → ℕ) (u v : ℕ) → Step (λ x. bitOr (s x) (r x)) u v → Mixed s r u v
 mixed-out s r u v e = in-cases (s u) (r u) v e
 
 -- .. and back.

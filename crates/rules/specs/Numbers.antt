@@ -73,9 +73,13 @@ givenPairIn n f z rest = given (somePair f) (sayPair n f z) rest
 abbrev pub givenPair : ℕ → (ℕ → ℕ → Bool) → Said → Said
 givenPair n f = givenPairIn n f 0
 
+-- p is one of those asked, and has a pair
+abbrev pub hasPair : (ℕ → Bool) → (ℕ → ℕ → ℕ → Bool) → ℕ → Bool
+hasPair asked f p = asked p && somePair (f p)
+
 -- number n with z the lowest of those asked that has a pair, then x and y the lowest for it
 unfoldable pub givenLowestPair : ℕ → (ℕ → Bool) → (ℕ → ℕ → ℕ → Bool) → Said → Said
-givenLowestPair n asked f rest = let p = lowest (λ p. asked p && somePair (f p)) in given (ltb p 64) (sayPair n (f p) p) rest
+givenLowestPair n asked f rest = let p = lowest (hasPair asked f) in given (ltb p 64) (sayPair n (f p) p) rest
 
 -- 4: an argument is not what it must be; x = 1, 2 or 3, the first at fault
 unfoldable pub argumentFault : Book → Row → ℕ → ℕ → ℕ → Said → Said

@@ -6,10 +6,10 @@ use Rattle.sets.specs.Search.{lowest}
 use Rattle.sets.proofs.SearchLaws.{searchRest, search-on, search-at, search-out}
 use Rattle.rules.proofs.BookLaws.{read-sized}
 use Rattle.book.specs.Slice.{words, tables}
-use Rattle.orders.proofs.HoldLaws.{excludedIn, none-excluded, sme-found, none-here, pair-here, sme-told, sme-silent}
+use Rattle.holdings.proofs.HoldLaws.{excludedIn, none-excluded, sme-found, none-here, pair-here, sme-told, sme-silent}
 use borrow.Author.Needs.{needs}
-use Rattle.orders.proofs.sme_held.Statement.{statement}
-use Rattle.orders.proofs.sme_held.Tie as tie
+use Rattle.holdings.proofs.sme_held.Statement.{statement}
+use Rattle.holdings.proofs.sme_held.Tie as tie
 
 abbrev Inv-loop : tie.InvT-loop
 Inv-loop book c hand excluded order₀ order =

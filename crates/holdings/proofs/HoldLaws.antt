@@ -1,7 +1,7 @@
 -- 33 and 34 from the searches. Of what c holds those tasks alone count that have a partner in the hand, so it is the same whether all of
 -- it is searched or those. 33 goes through the orders and ends at the first that has a pair; such an order is open, for c holds a task in it.
 use mathlib.Core.Path.{_≡_, refl, sym, ap, _∙_}
-use mathlib.Core.Bool.{Bool, true, false, _&&_}
+use mathlib.Core.Bool.{Bool, true, false}
 use Prim.Native.Nat.{ℕ, suc, _-_, _^_, _<_}
 use native.Mathlib.Omega.{arith}
 use lib.Dec.{ltb, eqb}
@@ -14,7 +14,7 @@ use Rattle.sets.proofs.MaskLaws.{in-both, both-out, in-full, zero-none, meet-in
 use Rattle.sets.proofs.SearchLaws.{lowest-end, pair-none}
 use Rattle.rules.specs.Book.{Book, tasks, SME, DME, orders, subjectIn}
 use Rattle.rules.specs.Requests.{isOpen, subjectHand}
-use Rattle.rules.specs.Numbers.{Said, accepted, sayXYZ, given, somePair, sayPair, givenPairIn, givenLowestPair, between, heldBy}
+use Rattle.rules.specs.Numbers.{Said, accepted, sayXYZ, given, somePair, sayPair, givenPairIn, hasPair, givenLowestPair, between, heldBy}
 use Rattle.rules.specs.Numbers.{holds, heldSme, heldDme, heldConflicts, firstOf, isAccepted}
 use Rattle.rules.specs.Meaning.{Sized, Formed}
 use Rattle.rules.proofs.Exactly.{Exactly, itself, exactly-same}
@@ -30,7 +30,7 @@ use Rattle.hands.specs.Held.{heldAmong}
 
 -- order p is open, and c holds in it a task that is SME to one of the hand
 abbrev pub excludedIn : Book → ℕ → ℕ → ℕ → Bool
-excludedIn d c hand p = isOpen d p && somePair (holds SME d c hand p)
+excludedIn d c hand = hasPair (isOpen d) (holds SME d c hand)
 
 -- Where no order is found, 33 is silent.
 pub sme-silent : (d : Book) (c hand : ℕ) → 64 ≡ lowest (excludedIn d c hand) → accepted ≡ givenLowestPair 33 (isOpen d) (holds SME d c hand) accepted

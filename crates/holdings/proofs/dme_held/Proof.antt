@@ -2,10 +2,10 @@
 use native.Mathlib.Omega.{arith}
 use Rattle.rules.proofs.BookLaws.{read-sized}
 use Rattle.book.specs.Slice.{words, tables}
-use Rattle.orders.proofs.HoldLaws.{dme-told, dme-silent}
+use Rattle.holdings.proofs.HoldLaws.{dme-told, dme-silent}
 use borrow.Author.Needs.{needs}
-use Rattle.orders.proofs.dme_held.Statement.{statement}
-use Rattle.orders.proofs.dme_held.Tie as tie
+use Rattle.holdings.proofs.dme_held.Statement.{statement}
+use Rattle.holdings.proofs.dme_held.Tie as tie
 
 held-among-requires : tie.Need-held-among-requires
 held-among-requires c κs = search needs

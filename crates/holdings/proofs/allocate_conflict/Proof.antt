@@ -2,10 +2,10 @@
 use mathlib.Core.Path.{sym, _∙_}
 use borrow.Author.Tests.{not-true, not-false}
 use Rattle.book.specs.Slice.{tables}
-use Rattle.orders.proofs.HoldLaws.{sme-stands, dme-next}
+use Rattle.holdings.proofs.HoldLaws.{sme-stands, dme-next}
 use borrow.Author.Needs.{needs}
-use Rattle.orders.proofs.allocate_conflict.Statement.{statement}
-use Rattle.orders.proofs.allocate_conflict.Tie as tie
+use Rattle.holdings.proofs.allocate_conflict.Statement.{statement}
+use Rattle.holdings.proofs.allocate_conflict.Tie as tie
 
 subject-hand-requires : tie.Need-subject-hand-requires
 subject-hand-requires c κs = search needs
