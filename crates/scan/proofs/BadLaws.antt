@@ -101,20 +101,21 @@ role-by-word v {low} {high} a b = ap₂ _&&_ (some (decLt v 128)) (most (decLt 8
     most (yes l) = lt-leb v high (omega arith) ∙ sym (lt-leb (roleIn v) 64 (omega arith))
     most (no l) = le-leb v high (omega arith) ∙ sym (le-leb (roleIn v) 64 (omega arith))
 
+-- What is asked of the role and the subject in a cell of the order's tasks.
+abbrev handBad : ℕ → ℕ → ℕ → Bool
+handBad R S v = not (names R (roleIn v)) || (not (names S (subjectIn v)) || eqb (roleIn v) 0)
+
 -- A cell is bad outside its order's tasks,
 pub outside-order : (R S v : ℕ) {inOrder : Bool} → inOrder ≡ false → true ≡ badCell inOrder R S v
 unfolding badCell
-outside-order R S v e = sym (ap (λ (t : Bool). not t || (not (names R (roleIn v)) || (not (names S (subjectIn v)) || eqb (roleIn v) 0))) e)
+outside-order R S v e = sym (ap (λ (t : Bool). not t || handBad R S v) e)
 
 -- and where E is not 1 to 64,
 pub without-role : (R S v : ℕ) {inOrder : Bool} → inOrder ≡ true → hasRole v ≡ false → true ≡ badCell inOrder R S v
 unfolding badCell
-without-role R S v e h = go (decLt 0 (roleIn v)) (decLt 64 (roleIn v)) ∙ sym (ap (λ (t : Bool). not t || rest) e)
+without-role R S v e h = go (decLt 0 (roleIn v)) (decLt 64 (roleIn v)) ∙ sym (ap (λ (t : Bool). not t || handBad R S v) e)
   where
-    rest : Bool
-    rest = not (names R (roleIn v)) || (not (names S (subjectIn v)) || eqb (roleIn v) 0)
-
-    go : Dec (0 < roleIn v) → Dec (64 < roleIn v) → true ≡ rest
+    go : Dec (0 < roleIn v) → Dec (64 < roleIn v) → true ≡ handBad R S v
     go (no none) past =
         sym (or-in-r (not (names R (roleIn v))) _ (or-in-r (not (names S (subjectIn v))) (eqb (roleIn v) 0) (eq-eqb (roleIn v) 0 (omega arith))))
     go (yes some) (yes past) = sym (or-in-l (not (names R (roleIn v))) _ (ap not (names-none R (roleIn v) past)))
@@ -134,7 +135,7 @@ module _ (R S v : ℕ) (hR : R < 2 ^ 64) {inOrder k : Bool} (e : inOrder ≡ tru
       let some = ltb-true 0 (roleIn v) (and-out (ltb 0 (roleIn v)) (leb (roleIn v) 64) h .0) in
       ap₂ (λ (s t : Bool). not s || t) known
       (sym (ap (λ (t : Bool). not (names S (subjectIn v)) || t) (ne-eqb (roleIn v) 0 (λ z. omega arith)) ∙ or-none (not (names S (subjectIn v)))))
-      ∙ sym (ap (λ (t : Bool). not t || (not (names R (roleIn v)) || (not (names S (subjectIn v)) || eqb (roleIn v) 0))) e)
+      ∙ sym (ap (λ (t : Bool). not t || handBad R S v) e)
 
   pub role-unknown : k ≡ false → true ≡ badCell inOrder R S v
   role-unknown f = sym (ap (λ (t : Bool). not t || not (names S (subjectIn v))) f) ∙ asked
