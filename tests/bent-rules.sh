@@ -3,7 +3,8 @@
 # it breaks none. Of changes that let a person act, or stop them, it is proved that they do not meet M-101: after the trial's request,
 # which is not of kind 11, person 0 does not act in what they acted in. Of rules by which the order of clicking matters, or by which what is
 # taken back leaves a trace, it is proved that they do not meet M-102, at the book and the list of one trial (crate list_trials). Of rules
-# that name something else it is proved that they do not tell what the table of M-104 does (crate examples): no demand pins what is named.
+# that name something else it is proved that they do not tell what the table of M-104 or M-105 does (crate examples): no demand pins what is
+# named.
 # Of rules that are only written another way it is proved that the trial still holds. The copy has the definitions and the law that a trial
 # is the statement at its book, with the few on tests and small books that it cites, and none on the rules: those would be refused for the
 # wording alone.
@@ -66,19 +67,19 @@ END
     esac
 }
 
-# .. and of the table of M-104.
-bent_table_claim() { # CLAIM
+# .. and of a table of what is named.
+bent_table_claim() { # CLAIM FAMILY TABLE
     cat <<END
 use mathlib.Core.Bool.{not}
 use lib.Dec.{T}
 use Rattle.rules.specs.Computed.{computed}
 use Rattle.examples.specs.Examples.{allGo}
-use Rattle.examples.specs.SeveralOrders.{severalOrders}
+use Rattle.examples.specs.$2.{$3}
 
 END
     case $1 in
-    mistold) printf '%s\n' 'pub refuted : T (not (allGo severalOrders))' 'unfolding computed' 'refuted = tt' ;;
-    told) printf '%s\n' 'pub stands : T (allGo severalOrders)' 'unfolding computed' 'stands = tt' ;;
+    mistold) printf '%s\n' "pub refuted : T (not (allGo $3))" 'unfolding computed' 'refuted = tt' ;;
+    told) printf '%s\n' "pub stands : T (allGo $3)" 'unfolding computed' 'stands = tt' ;;
     esac
 }
 
@@ -111,7 +112,8 @@ bent_copy() { # ROOM CLAIM FILE OLD NEW FAMILY TRIAL
     rest=${text/"$4"/}
     [ "$text" != "$rest" ] || { echo "crates/rules/specs/$3 does not have the text: $4"; return 1; }
     [ "$rest" = "${rest/"$4"/}" ] || { echo "crates/rules/specs/$3 has the text more than once: $4"; return 1; }
-    printf '%s\n' 'use mathlib.Core.Bool.{_||_}' "${text/"$4"/"$5"}" >"$1/rules/specs/$3" # a bend may say "or"
+    # A bend may say "or", and name what is said of masks.
+    printf '%s\n' 'use mathlib.Core.Bool.{_||_}' 'use Rattle.sets.specs.Mask as masks' "${text/"$4"/"$5"}" >"$1/rules/specs/$3"
 }
 
 # Says that the claim is proved, or what the prover says first.
@@ -142,8 +144,8 @@ trace() { bent_start traced "$@"; }        # SENTENCE FILE OLD NEW FAMILY TRIAL
 order() { bent_start ordered "$@"; }       # SENTENCE FILE OLD NEW FAMILY TRIAL
 no_trace() { bent_start untraced "$@"; }   # SENTENCE FILE OLD NEW FAMILY TRIAL
 
-mistell() { bent_start mistold "$@" SeveralOrders severalOrders; } # SENTENCE FILE OLD NEW
-tell() { bent_start told "$@" SeveralOrders severalOrders; }       # SENTENCE FILE OLD NEW
+mistell() { bent_start mistold "$@" "${table[@]}"; } # SENTENCE FILE OLD NEW, of the table that is set
+tell() { bent_start told "$@" "${table[@]}"; }       # SENTENCE FILE OLD NEW, of the table that is set
 
 bent_shown() { # TOLD
     [ "$1" = proved ] || { echo "not proved: $1"; return 1; }
@@ -217,13 +219,13 @@ bend "23 asked of kinds 18 to 21 too" Numbers.antt \
     'conflicts (unrelate n) c = []' 'conflicts (unrelate n) c = oneSubjectGroup ∷ []' PairsBack sbBack
 bend "31 of every role" Numbers.antt '(λ o. ownsRole d (role o) b)' '(λ o. true)' Staff freeTask
 bend "30 turned round" Numbers.antt 'bit (reach d a) b' 'bit (reach d b) a' Staff freeJunior
-bend "32 of tasks that are DME" Numbers.antt 'clash (d .row SME) gain' 'clash (d .row DME) gain' Staff freeRole
+bend "32 of tasks that are DME" Numbers.antt 'clashing (d .row SME) gain' 'clashing (d .row DME) gain' Staff freeRole
 bend "34 of tasks outside the order" Numbers.antt \
     'holds DME d c (subjectHand d a b) b' 'holds DME d c (subjectGroup d a) b' Orders outsideOrder
 bend "34 of every open order" Numbers.antt \
     'givenPairIn 34 (holds DME d c (subjectHand d a b) b) b' 'givenLowestPair 34 (isOpen d) (holds DME d c (subjectHand d a b))' Orders dmeElsewhere
 bend "33 and 34 of what anybody holds" Numbers.antt \
-    '(d .row n) (heldBy d p c)' '(d .row n) (joined 64 (λ t. only (not (eqb (subjectIn (d .cell p t)) 0)) (2 ^ t)) (d .row orders p))' Orders othersHand
+    '(d .row n) (heldBy d p c)' '(d .row n) (picked (λ t. not (eqb (subjectIn (d .cell p t)) 0)) (d .row orders p))' Orders othersHand
 
 # ---- The audit's rules
 
@@ -282,6 +284,7 @@ no_trace "the two bits of a pair taken back in the other order" Requests.antt \
 
 # ---- What 33 and 34 name (M-104)
 
+table=(SeveralOrders severalOrders)
 mistell "33 that names no order" Numbers.antt '(sayPair n (f p) p)' '(sayPair n (f p) 0)'
 mistell "33 that names the highest order" Numbers.antt \
     'let p = lowest (hasPair asked f) in' \
@@ -291,7 +294,7 @@ mistell "33 with x the lowest that is held in any order" Numbers.antt \
     'heldSme c d a b = givenLowestPair 33 (isOpen d) (holds SME d c (subjectHand d a b))' \
     'heldSme c d a b rest =
         let p = lowest (hasPair (isOpen d) (holds SME d c (subjectHand d a b))) in
-        let held = joined 64 (λ p. only (isOpen d p) (heldBy d p c)) (2 ^ 64 - 1) in
+        let held = masks.joined 64 (λ p. only (isOpen d p) (heldBy d p c)) (2 ^ 64 - 1) in
         given (ltb p 64) (sayPair 33 (between (d .row SME) held (subjectHand d a b)) p) rest'
 mistell "33 and 34 with the highest partner" Numbers.antt \
     'sayXYZ n i (lowest (f i)) z' 'sayXYZ n i (63 - lowest (λ v. f i (63 - v))) z'
@@ -303,6 +306,28 @@ mistell "33 after 34" Numbers.antt 'heldSme c ∷ heldDme c ∷ []' 'heldDme c �
 mistell "34 that names no order" Numbers.antt 'givenPairIn 34 (holds DME d c (subjectHand d a b) b) b' 'givenPairIn 34 (holds DME d c (subjectHand d a b) b) 0'
 tell "33 with a test that adds nothing" Numbers.antt 'given (ltb p 64) (sayPair n (f p) p)' 'given (ltb p 64 && true) (sayPair n (f p) p)'
 
+# ---- What 31 and 32 name (M-105)
+
+table=(WholeClash wholeClash)
+mistell "31 and 32 with the lowest task, as document 01 had it" Numbers.antt \
+    '(sayXY n i (f i)) rest' '(sayXY n i (lowest (bit (f i)))) rest'
+mistell "31 and 32 with the lowest task's bit alone" Numbers.antt \
+    '(sayXY n i (f i)) rest' '(sayXY n i (2 ^ lowest (bit (f i)))) rest'
+mistell "31 and 32 with the clashes of all owners together" Numbers.antt \
+    '(sayXY n i (f i)) rest' '(sayXY n i (masks.joined 64 f (2 ^ 64 - 1))) rest'
+mistell "31 and 32 with the mask of the highest owner" Numbers.antt \
+    '(sayXY n i (f i)) rest' '(sayXY n i (f (63 - lowest (λ o. hasSome f (63 - o))))) rest'
+mistell "31 and 32 that name the highest owner" Numbers.antt \
+    '(sayXY n i (f i)) rest' '(sayXY n (63 - lowest (λ o. hasSome f (63 - o))) (f i)) rest'
+mistell "31 and 32 with the gained tasks instead of the owned ones" Numbers.antt \
+    'picked (λ t. meet (sme t) gain) owned' 'picked (λ t. meet (sme t) owned) gain'
+mistell "31 and 32 with all that the owner owns" Numbers.antt \
+    'picked (λ t. meet (sme t) gain) owned' 'only (meet (picked (λ t. meet (sme t) gain) owned) owned) owned'
+mistell "31 and 32 by the rows of the gained tasks" Numbers.antt \
+    'picked (λ t. meet (sme t) gain) owned' 'picked (λ t. ltb (lowest (λ v. bit gain v && bit (sme v) t)) 64) owned'
+tell "31 and 32 with a test that adds nothing" Numbers.antt \
+    'picked (λ t. meet (sme t) gain) owned' 'picked (λ t. meet (sme t) gain && true) owned'
+
 # ---- Written another way
 
 same "20 with a test that adds nothing" Numbers.antt 'given (eqb a b) (say 20' 'given (eqb b a || false) (say 20' Pairs ownBinding
@@ -311,8 +336,7 @@ same "the two bits of a pair taken back in the other order" Requests.antt \
 same "25 and 26 with their two tests swapped" Numbers.antt 'bit mine a && bit mine b' 'bit mine b && bit mine a' Pairs roleOwns
 same "27 and 28 with their three tests in another order" Numbers.antt \
     'bit xs u && (bit (rows u) v && bit ys v)' '(bit ys v && bit xs u) && bit (rows u) v' Pairs chainedSme
-same "31 and 32 with their two tests swapped" Numbers.antt \
-    'bit owned t && meet (sme t) gain' 'meet (sme t) gain && bit owned t' Staff seniorGains
+same "31 and 32 with the two sides of a meeting swapped" Numbers.antt 'meet (sme t) gain' 'meet gain (sme t)' Staff seniorGains
 same "33 and 34 with the two sides swapped" Numbers.antt \
     'eqb (subjectIn (d .cell b t)) (suc c)' 'eqb (suc c) (subjectIn (d .cell b t))' Orders heldDme
 same "the role group with its two tables swapped" Trade.antt 'group (mixed d SB RB) t' 'group (mixed d RB SB) t' Pairs mixedChain
@@ -332,8 +356,8 @@ for n in $(seq "$bent_count"); do
     ordered) what="another wording: $what. The order still does not matter at the trial $trial" ;;
     untraced) what="another wording: $what. It still leaves no trace at the trial $trial" ;;
     stands) what="another wording: $what. The trial $trial still holds" ;;
-    mistold) what="bent: $what. The table of M-104 is told otherwise" ;;
-    told) what="another wording: $what. The table of M-104 is still told" ;;
+    mistold) what="bent: $what. The table $trial is told otherwise" ;;
+    told) what="another wording: $what. The table $trial is still told" ;;
     esac
     holds "$what" bent_shown "$(cat "$bent/$n.told")"
 done

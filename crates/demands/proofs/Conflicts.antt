@@ -3,24 +3,24 @@
 -- The masks and searches of the rules end here: all that follows goes over relations.
 use mathlib.Core.Path.{_≡_, refl}
 use mathlib.Core.Logic.{_↔_}
-use mathlib.Core.Bool.{Bool, true, false}
+use mathlib.Core.Bool.{Bool, true}
 use mathlib.Core.List.{List, [], _∷_}
 use Prim.Native.Nat.{ℕ, _^_, _<_}
 use lib.Dec.{eqb}
-use Rattle.sets.specs.Mask.{bit, only}
-use Rattle.sets.proofs.MaskLaws.{zero-none}
+use Rattle.sets.specs.Mask.{bit, meet}
+use Rattle.sets.proofs.MaskLaws.{only-lt, picked-lt}
 use Rattle.chains.specs.Relation.{Relation, Subset, Step, Chain, Reaches}
 use Rattle.chains.proofs.ClosureLaws.{From}
 use Rattle.rules.specs.Book.{Book, SME, DME, juniors}
 use Rattle.rules.specs.Trade.{Owner, role, subject, ownsRole, ownedTasks}
 use Rattle.rules.specs.Requests.{Deed, change}
-use Rattle.rules.specs.Numbers.{Said, accepted, say, given, givenLowest, givenPairIn, givenPair, givenLowestPair, Conflict, conflicts, firstOf}
+use Rattle.rules.specs.Numbers.{Said, accepted, say, given, givenLowest, givenSet, givenPairIn, givenLowestPair, Conflict, conflicts, firstOf}
 use Rattle.rules.specs.Numbers.{between, clashes, ownsBoth, gainedRole}
 use Rattle.rules.specs.Numbers.{selfConstraint, alreadyDme, alreadySme, oneSubjectGroup, oneRoleGroup, roleOwnsBoth, subjectOwnsBoth}
 use Rattle.rules.specs.Numbers.{smeBetweenGroups, dmeBetweenGroups, selfInheritance, cycle, taskAssignment, roleAssignment, ownRoleAssignment}
 use Rattle.rules.specs.Meaning.{Sized, Sound, OwnedFrom}
-use Rattle.rules.proofs.Exactly.{Exactly, itself, exactly-and, exactly-eqb, exactly-meet, unless-holds}
-use Rattle.rules.proofs.NumberLaws.{given-out, given-in, lowest-out, lowest-in, pair-out, pair-in, lowest-pair-out, lowest-pair-in}
+use Rattle.rules.proofs.Exactly.{Exactly, itself, exactly-and, exactly-eqb, exactly-meet, exactly-only, exactly-picked, exactly-some, unless-holds}
+use Rattle.rules.proofs.NumberLaws.{given-out, given-in, lowest-out, lowest-in, set-out, set-in, pair-out, pair-in, lowest-pair-out, lowest-pair-in}
 use Rattle.rules.proofs.TradeLaws.{step-from, step-to, subject-group, role-group, reach-shows, below-out, below-in, role-lt, subject-lt, owner-shows}
 use Rattle.demands.proofs.PairRules.{GroupsApart}
 use Rattle.demands.proofs.Owners.{Unclashed}
@@ -34,7 +34,8 @@ Silent P f = (rest : Said) → (f rest ≡ accepted) ↔ (P × (rest ≡ accepte
 pub silent-as : {P Q : Type 0} {f : Said → Said} → (P → Q) → (Q → P) → Silent P f → Silent Q f
 silent-as to from s rest = (λ e. let p = s rest .0 e in (to (p .0), p .1), λ p. s rest .1 (from (p .0), p .1))
 
--- Every conflict is one test, a search for the lowest, for a pair, or for the lowest that has a pair, with its number n.
+-- Every conflict is one test, a search for the lowest, for a set that is not empty, for a pair, or for the lowest that has a pair, with its
+-- number n.
 module _ (n : ℕ) where
   -- A test that stands for P is silent where not P.
   pub silent-test : {P : Type 0} (t : Bool) → Exactly t P → Silent (P → ⊥) (given t (say n))
@@ -48,7 +49,16 @@ module _ (n : ℕ) where
       silent-as (λ g i h. unless-holds (e i h) .means (g i h)) (λ g i h. unless-holds (e i h) .fails (g i h))
       (λ rest. (lowest-out n f rest, λ p. lowest-in n f rest (p .0) (p .1)))
 
-  -- So is a search for a pair, whatever z is ..
+  -- So is a search for a set that is not empty ..
+  pub silent-set : (f : ℕ → ℕ) {P : Relation} → ((o : ℕ) → o < 64 → f o < 2 ^ 64) → ((o u : ℕ) → o < 64 → Exactly (bit (f o) u) (P o u))
+      → Silent ((o u : ℕ) → o < 64 → P o u → ⊥) (givenSet n f)
+  silent-set f fits e =
+      silent-as
+      (λ g o u h p. unless-holds (exactly-some (f o) (fits o h)) .means (g o h) (u, e o u h .holds p))
+      (λ g o h. unless-holds (exactly-some (f o) (fits o h)) .fails (λ (u, i). g o u h (e o u h .means i)))
+      (λ rest. (set-out n f rest, λ p. set-in n f rest (p .0) (p .1)))
+
+  -- .. one for a pair, whatever z is ..
   pub silent-pair : (f : ℕ → ℕ → Bool) (z : ℕ) {P : Relation} → ((u v : ℕ) → u < 64 → v < 64 → Exactly (f u v) (P u v))
       → Silent ((u v : ℕ) → u < 64 → v < 64 → P u v → ⊥) (givenPairIn n f z)
   silent-pair f z e =
@@ -101,17 +111,6 @@ Owning d start o = OwnedFrom d (start o)
 abbrev pub OwnsRole : Book → Owner → ℕ → Subset
 OwnsRole d start b o = From (d .row juniors) (start o) b
 
--- A member of a set that counts only where the test holds.
-exactly-only : {P Q : Type 0} (t : Bool) (m i : ℕ) → Exactly t P → Exactly (bit m i) Q → Exactly (bit (only t m) i) (P × Q)
-exactly-only {P} {Q} t m i x y = record { means = λ e. out t refl e; holds = λ p. into t (x .holds (p .0)) (y .holds (p .1)) }
-  where
-    out : (s : Bool) → t ≡ s → bit (only s m) i ≡ true → P × Q
-    out true e q = (x .means e, y .means q)
-    out false e q = absurd (zero-none i refl q)
-
-    into : (s : Bool) → s ≡ true → bit m i ≡ true → bit (only s m) i ≡ true
-    into s e q = rw e q
-
 module _ (d : Book) (sized : Sized d) where
   -- 25 and 26: an owner owns a and b.
   silent-both : (n : ℕ) (start : Owner) → ((o : ℕ) → o < 64 → start o < 2 ^ 64) → (a b : ℕ)
@@ -146,16 +145,16 @@ module _ (d : Book) (sized : Sized d) where
   module _ {Gain : Subset} (gain : ℕ) (small : gain < 2 ^ 64) (what : (v : ℕ) → Exactly (bit gain v) (Gain v)) where
     silent-clashes : {Asked : Subset} (n : ℕ) (start : Owner) → ((o : ℕ) → o < 64 → start o < 2 ^ 64)
         → (asked : ℕ → Bool) → ((o : ℕ) → o < 64 → Exactly (asked o) (Asked o))
-        → Silent (Unclashed (Sme d) (Owning d start) Asked Gain) (givenPair n (clashes d start asked gain))
+        → Silent (Unclashed (Sme d) (Owning d start) Asked Gain) (givenSet n (clashes d start asked gain))
     silent-clashes n start fits asked who =
         let owns = owner-shows d sized start fits in
         silent-as
-        (λ g o h p u v q w x. g o u h (step-from (sized .rows SME) u v x) ((p, q), (v, x, what v .holds w)))
-        (λ g o u h hu z. g o h (z .0 .0) u (z .1 .0) (z .0 .1) (what (z .1 .0) .means (z .1 .2)) (z .1 .1))
-        (silent-pair n (clashes d start asked gain) 0 (λ o u h hu.
-        exactly-and
-        (exactly-only (asked o) (ownedTasks d (start o)) u (who o h) (owns .says o u h))
-        (exactly-meet (d .row SME u) gain (sized .rows SME .fits u) small)))
+        (λ g o h p u v q w x. g o u h (p, (owns .says o u h .holds q, (v, x, what v .holds w))))
+        (λ g o u h (p, (q, (v, x, w))). g o h p u v (owns .says o u h .means q) (what v .means w) x)
+        (silent-set n (clashes d start asked gain) (λ o h. only-lt (asked o) _ (picked-lt (λ t. meet (d .row SME t) gain) (ownedTasks d (start o))))
+        (λ o u h. exactly-only (asked o) _ u (who o h)
+        (exactly-picked (λ t. meet (d .row SME t) gain) (ownedTasks d (start o)) u (owns .fits o h)
+        (exactly-meet (d .row SME u) gain (sized .rows SME .fits u) small))))
 
   -- Each conflict, of the arguments a and b.
   module _ (a b : ℕ) where
@@ -218,7 +217,7 @@ module _ (d : Book) (sized : Sized d) where
     module _ {Gain : Subset} (gained : Book → ℕ → ℕ) (small : gained d a < 2 ^ 64) (what : (v : ℕ) → Exactly (bit (gained d a) v) (Gain v)) where
       -- Of the owners that own role b, one owns a task SME to one of the gain.
       silent-owners : (n : ℕ) (start : Owner) → ((o : ℕ) → o < 64 → start o < 2 ^ 64)
-          → Silent (Unclashed (Sme d) (Owning d start) (OwnsRole d start b) Gain) (givenPair n (clashes d start (λ o. ownsRole d (start o) b) (gained d a)))
+          → Silent (Unclashed (Sme d) (Owning d start) (OwnsRole d start b) Gain) (givenSet n (clashes d start (λ o. ownsRole d (start o) b) (gained d a)))
       silent-owners n start fits = silent-clashes (gained d a) small what n start fits (λ o. ownsRole d (start o) b) (λ o h.
           record { means = below-out d sized (start o) b; holds = below-in d sized (start o) b (fits o h) })
 

@@ -17,8 +17,9 @@ use Rattle.rules.specs.Small.{Word, bookOf, small}
 use Rattle.rules.proofs.SmallLaws.{small-fits}
 use Rattle.examples.specs.Examples.{Step, Run, same, stand, goes, allGo, examples}
 use Rattle.examples.specs.SeveralOrders.{severalOrders}
-use Rattle.examples.specs.Hold.{examples-hold, several-orders-hold}
-use Rattle.examples.specs.OnWords.{Stand, Goes, AllGo, ExamplesOnWords, SeveralOnWords}
+use Rattle.examples.specs.WholeClash.{wholeClash}
+use Rattle.examples.specs.Hold.{examples-hold, several-orders-hold, whole-clash-holds}
+use Rattle.examples.specs.OnWords.{Stand, Goes, AllGo, ExamplesOnWords, SeveralOnWords, ClashOnWords}
 
 -- What a test that passed leaves.
 passed : (t : Bool) → T t → t ≡ true
@@ -92,6 +93,10 @@ all-on-words (r ∷ rs) e =
 pub examples-on-words : ExamplesOnWords
 examples-on-words = all-on-words examples (passed (allGo examples) examples-hold)
 
--- So do the runs of M-104.
+-- So do the runs of M-104 ..
 pub several-on-words : SeveralOnWords
 several-on-words = all-on-words severalOrders (passed (allGo severalOrders) several-orders-hold)
+
+-- .. and those of M-105.
+pub clash-on-words : ClashOnWords
+clash-on-words = all-on-words wholeClash (passed (allGo wholeClash) whole-clash-holds)

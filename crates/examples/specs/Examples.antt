@@ -1,5 +1,6 @@
 -- Document 01, "Numbers to check by": P1 to P14 as one computed table. Each "then" is the next step of a run. With M-101 a role is active
--- where it was activated: in book B by its active words, in P14 by a request. With M-104 an answer has a third number.
+-- where it was activated: in book B by its active words, in P14 by a request. With M-104 an answer has a third number, and with M-105 y is a mask
+-- in P6, P7 and P9.
 -- The runs are computed over tables; OnWords.antt says the same of the words that the guarantees speak of.
 use mathlib.Core.Bool.{Bool, true, false, _&&_}
 use mathlib.Core.List.{List, [], _∷_}
@@ -79,11 +80,11 @@ examples =
     ∷ ask 4 4 5 0 (sayX 25 3) []
     -- P5 SB 3-4; P6 role 1 to subject 0; P7 task 1 to role 0
     ∷ ask 7 3 4 0 (sayXY 28 2 4) []
-    ∷ ask 10 1 0 0 (sayXY 32 0 0) []
-    ∷ ask 8 1 0 0 (sayXY 31 0 0) []
+    ∷ ask 10 1 0 0 (sayXY 32 0 1) []
+    ∷ ask 8 1 0 0 (sayXY 31 0 1) []
     -- P8 role 3 junior of role 2; P9 role 0 junior of role 1
     ∷ ask 9 3 2 0 (say 30) []
-    ∷ ask 9 0 1 0 (sayXY 31 1 1) []
+    ∷ ask 9 0 1 0 (sayXY 31 1 2) []
     -- P10 open order 0 with mask 60, allocate task 2 to subject 1
     ∷ ask 12 0 0 60 accepted []
     ∷ ask 13 2 0 1 accepted (cell 0 2 514 ∷ cell 0 3 514 ∷ cell 0 4 0 ∷ cell 0 5 512 ∷ [])

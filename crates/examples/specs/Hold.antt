@@ -3,6 +3,7 @@ use lib.Dec.{T}
 use Rattle.rules.specs.Computed.{computed}
 use Rattle.examples.specs.Examples.{allGo, examples}
 use Rattle.examples.specs.SeveralOrders.{severalOrders}
+use Rattle.examples.specs.WholeClash.{wholeClash}
 
 -- P1 to P14.
 pub examples-hold : T (allGo examples)
@@ -13,3 +14,8 @@ examples-hold = tt
 pub several-orders-hold : T (allGo severalOrders)
 unfolding computed
 several-orders-hold = tt
+
+-- The runs of M-105.
+pub whole-clash-holds : T (allGo wholeClash)
+unfolding computed
+whole-clash-holds = tt

@@ -1,4 +1,4 @@
--- P1 to P14, and the examples of M-104, of the words that the guarantees speak of: each run of a table, from its first request to its
+-- P1 to P14, and the examples of M-104 and M-105, of the words that the guarantees speak of: each run of a table, from its first request to its
 -- last, on a book of words. proofs/OnWords.antt shows it from the computed tables.
 use mathlib.Core.Path.{_≡_}
 use mathlib.Core.List.{List, [], _∷_}
@@ -8,6 +8,7 @@ use Rattle.rules.specs.Numbers.{answer, wordsAfter}
 use Rattle.rules.specs.Small.{Word, bookOf}
 use Rattle.examples.specs.Examples.{Step, Run, examples}
 use Rattle.examples.specs.SeveralOrders.{severalOrders}
+use Rattle.examples.specs.WholeClash.{wholeClash}
 
 -- the words listed stand in the book w
 abbrev pub Stand : (ℕ → ℕ) → List Word → Type 0
@@ -30,6 +31,10 @@ AllGo (r ∷ rs) = Goes (bookOf (r .start)) (r .steps) × AllGo rs
 abbrev pub ExamplesOnWords : Type 0
 ExamplesOnWords = AllGo examples
 
--- So do the runs of M-104.
+-- So do the runs of M-104 ..
 abbrev pub SeveralOnWords : Type 0
 SeveralOnWords = AllGo severalOrders
+
+-- .. and those of M-105.
+abbrev pub ClashOnWords : Type 0
+ClashOnWords = AllGo wholeClash

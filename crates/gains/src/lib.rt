@@ -1,8 +1,8 @@
 // What conflicts with an assignment: 29 and 30 of the hierarchy, 31 and 32 of what an owner would gain.
 // 31 and 32 share one search over owners.
 use answers::Answer;
+use owners::Clash;
 use owners::Owner;
-use search::Found;
 ghost use mathlib.Core.Path.{_≡_};
 ghost use mathlib.Core.List.{[], _∷_};
 ghost use Prim.Native.Nat.{_<_};
@@ -45,8 +45,8 @@ fn subjects_conflict(book: &[u64], gain: Gain, a: u64, b: u64) -> Answer
 {
     let found = owners::first_clash(book, Owner::Subject, b, gain_of(book, gain, a));
     match found {
-        Found::Pair(x, y) => Answer::RoleAssignment(x, y),
-        Found::Nothing => Answer::Accepted,
+        Clash::Owned(x, tasks) => Answer::RoleAssignment(x, tasks),
+        Clash::Nothing => Answer::Accepted,
     }
 }
 
@@ -57,8 +57,8 @@ pub fn owners_conflict(book: &[u64], gain: Gain, a: u64, b: u64) -> Answer
 {
     let found = owners::first_clash(book, Owner::Role, b, gain_of(book, gain, a));
     match found {
-        Found::Pair(x, y) => Answer::TaskAssignment(x, y),
-        Found::Nothing => subjects_conflict(book, gain, a, b),
+        Clash::Owned(x, tasks) => Answer::TaskAssignment(x, tasks),
+        Clash::Nothing => subjects_conflict(book, gain, a, b),
     }
 }
 
@@ -83,9 +83,9 @@ pub fn own_conflict(book: &[u64], a: u64, b: u64) -> Answer
 {
     let owned = trade::owned_tasks(book, book::row(book, book::ROLES_OF, b));
     let gain = gain_of(book, Gain::Role, a);
-    let y = search::lowest_meeting(book, book::SME, owned, gain);
-    if y < 64 {
-        return Answer::RoleAssignment(b, y);
+    let tasks = search::meeting(book, book::SME, owned, gain);
+    if tasks != 0 {
+        return Answer::RoleAssignment(b, tasks);
     }
     Answer::Accepted
 }

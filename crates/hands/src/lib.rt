@@ -2,10 +2,11 @@
 // Whoever calls these has seen that the slice is full and that the numbers are below 64.
 ghost use mathlib.Core.Path.{_≡_};
 ghost use Prim.Native.Nat.{_<_};
+ghost use lib.Bits.{bitAnd};
+ghost use Rattle.sets.specs.Mask.{alone};
 ghost use Rattle.rules.specs.Requests.{roleHand, subjectHand};
-ghost use Rattle.rules.specs.Numbers.{activeOwned};
+ghost use Rattle.rules.specs.Numbers.{activeOwned, inHand, heldBy};
 ghost use Rattle.book.specs.Slice.{tables, Full};
-ghost use Rattle.hands.specs.Held.{heldRow, heldAmong};
 
 // The tasks of the order in the role group of a task.
 pub fn role_hand(book: &[u64], task: u64, order: u64) -> u64
@@ -26,7 +27,7 @@ pub fn subject_hand(book: &[u64], task: u64, order: u64) -> u64
 // Task t alone, where its cell has the subject; else nothing.
 fn held_row(book: &[u64], order: u64, subject: u64, t: u64) -> u64
     requires { ⌜ Full (now book) × (order < 64) × (subject < 64) × (t < 64) ⌝ }
-    ensures { λ v. ⌜ v ≡ heldRow (tables (now (book .entry))) order subject t ⌝ }
+    ensures { λ v. ⌜ v ≡ alone (inHand (tables (now (book .entry))) order subject) t ⌝ }
 {
     if book::subject_in(book::cell(book, order, t)) == subject + 1 {
         sets::alone(t)
@@ -38,7 +39,7 @@ fn held_row(book: &[u64], order: u64, subject: u64, t: u64) -> u64
 // The tasks of the order that the subject holds, among those that are asked for: no other cell is looked at.
 pub fn held_among(book: &[u64], order: u64, subject: u64, those: u64) -> u64
     requires { ⌜ Full (now book) × (order < 64) × (subject < 64) ⌝ }
-    ensures { λ v. ⌜ v ≡ heldAmong (tables (now (book .entry))) order subject those ⌝ }
+    ensures { λ v. ⌜ v ≡ bitAnd (heldBy (tables (now (book .entry))) order subject) those ⌝ }
 {
     let mut held = 0;
     let mut left = book::row(book, book::ORDERS, order) & those;

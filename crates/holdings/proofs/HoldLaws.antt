@@ -2,31 +2,27 @@
 -- it is searched or those. 33 goes through the orders and ends at the first that has a pair; such an order is open, for c holds a task in it.
 use mathlib.Core.Path.{_≡_, refl, sym, ap, _∙_}
 use mathlib.Core.Bool.{Bool, true, false}
-use Prim.Native.Nat.{ℕ, suc, _-_, _^_, _<_}
-use native.Mathlib.Omega.{arith}
-use lib.Dec.{ltb, eqb}
-use lib.Bits.{bitAnd, and-lt}
+use Prim.Native.Nat.{ℕ, _-_, _^_, _<_}
+use lib.Dec.{ltb}
+use lib.Bits.{bitAnd}
 use borrow.Author.Tests.{lt-ltb}
-use Rattle.sets.specs.Mask.{bit, meet}
+use Rattle.sets.specs.Mask.{bit, meet, picked}
 use Rattle.sets.specs.Search.{lowest}
 use Rattle.sets.proofs.Logic.{and-in, and-out, and-fails-r, not-both, refute}
-use Rattle.sets.proofs.MaskLaws.{in-both, both-out, in-full, zero-none, meet-in}
+use Rattle.sets.proofs.MaskLaws.{in-both, both-out, in-full, zero-none, meet-in, picked-in}
 use Rattle.sets.proofs.SearchLaws.{lowest-end, pair-none}
-use Rattle.rules.specs.Book.{Book, tasks, SME, DME, orders, subjectIn}
+use Rattle.rules.specs.Book.{Book, tasks, SME, DME}
 use Rattle.rules.specs.Requests.{isOpen, subjectHand}
 use Rattle.rules.specs.Numbers.{Said, accepted, sayXYZ, given, somePair, sayPair, givenPairIn, hasPair, givenLowestPair, between, heldBy}
 use Rattle.rules.specs.Numbers.{holds, heldSme, heldDme, heldConflicts, firstOf, isAccepted}
 use Rattle.rules.specs.Meaning.{Sized, Formed}
-use Rattle.rules.proofs.Exactly.{Exactly, itself, exactly-same}
+use Rattle.rules.proofs.Exactly.{itself, exactly-same}
 use Rattle.rules.proofs.HeldLaws.{held-shows, open-order}
 use Rattle.search.specs.declared.Found.{Found}
 use Rattle.search.specs.declared.Found.the-variants.{Pair, Nothing}
-use Rattle.search.specs.Among.{among}
 use Rattle.search.specs.Pairs.{isPair, foundPair}
-use Rattle.search.proofs.AmongLaws.{among-exactly}
 use Rattle.search.proofs.PairLaws.{found-same, found-some, given-pair, given-nothing}
 use Rattle.deeds.proofs.CascadeLaws.{given-yes, given-stands, given-gives-way}
-use Rattle.hands.specs.Held.{heldAmong}
 
 -- order p is open, and c holds in it a task that is SME to one of the hand
 abbrev pub excludedIn : Book → ℕ → ℕ → ℕ → Bool
@@ -39,44 +35,31 @@ sme-silent d c hand at = ap (λ (q : ℕ). given (ltb q 64) (sayPair 33 (holds S
 
 -- Of table n, what c holds in order p among those, and the hand. All that have a partner in the hand are among those.
 module _ (d : Book) (s : Sized d) (c hand : ℕ) (hc : c < 64) where
-  -- What c holds among those is what c holds, of those.
-  among-held : (p those t : ℕ) → those < 2 ^ 64 → Exactly (bit (heldAmong d p c those) t) ((bit (heldBy d p c) t ≡ true) × (bit those t ≡ true))
-  unfolding heldAmong heldBy
-  among-held p those t h =
-      let mine : ℕ → Bool = λ t. eqb (subjectIn (d .cell p t)) (suc c) in
-      let o = d .row orders p in
-      let part = among-exactly (bitAnd o those) mine (and-lt 64 o those (s .rows orders .fits p) h) t in
-      let whole = among-exactly o mine (s .rows orders .fits p) t in
-      record {
-        means = λ e. (let x = part .means e in let i = both-out o those t (x .0) in (whole .holds (i .0, x .1), i .1));
-        holds = λ x. (let y = whole .means (x .0) in part .holds (in-both o those t (y .0) (x .1), y .1));
-      }
-
-  -- So a search among those finds what a search of all that c holds finds.
-  pub held-found : (n p those : ℕ) → those < 2 ^ 64 → ((u v : ℕ) → u < 64 → bit (d .row n u) v ≡ true → bit hand v ≡ true → bit those u ≡ true)
-      → {held : ℕ} {v : Found} → held ≡ heldAmong d p c those → v ≡ foundPair (between (d .row n) held hand) → v ≡ foundPair (holds n d c hand p)
-  held-found n p those h enough e f =
+  -- A search among those finds what a search of all that c holds finds.
+  pub held-found : (n p those : ℕ) → ((u v : ℕ) → u < 64 → bit (d .row n u) v ≡ true → bit hand v ≡ true → bit those u ≡ true)
+      → {held : ℕ} {v : Found} → held ≡ bitAnd (heldBy d p c) those → v ≡ foundPair (between (d .row n) held hand) → v ≡ foundPair (holds n d c hand p)
+  held-found n p those enough e f =
       f ∙ ap (λ (m : ℕ). foundPair (between (d .row n) m hand)) e
-      ∙ found-same (between (d .row n) (heldAmong d p c those) hand) (holds n d c hand p) (λ u v hu hv. exactly-same (record {
-        means = λ t. (let x = and-out _ _ t in and-in (among-held p those u h .means (x .0) .0) (x .1));
+      ∙ found-same (between (d .row n) (bitAnd (heldBy d p c) those) hand) (holds n d c hand p) (λ u v hu hv. exactly-same (record {
+        means = λ t. (let x = and-out _ _ t in and-in (both-out (heldBy d p c) those u (x .0) .0) (x .1));
         holds = λ t. (
             let x = and-out _ _ t in
             let y = and-out (bit (d .row n u) v) (bit hand v) (x .1) in
-            and-in (among-held p those u h .holds (x .0, enough u v hu (y .0) (y .1))) (x .1));
+            and-in (in-both (heldBy d p c) those u (x .0) (enough u v hu (y .0) (y .1))) (x .1));
       }) (itself _))
 
   -- 33: the tasks that are excluded, whose SME rows meet the hand.
-  module _ (formed : Formed d) {excluded : ℕ} (isExcluded : excluded ≡ among (tasks d) (λ u. meet (d .row SME u) hand)) where
+  module _ (formed : Formed d) {excluded : ℕ} (isExcluded : excluded ≡ picked (λ u. meet (d .row SME u) hand) (tasks d)) where
     -- All that have a partner in the hand are among them.
     enough : (u v : ℕ) → u < 64 → bit (d .row SME u) v ≡ true → bit hand v ≡ true → bit excluded u ≡ true
     enough u v hu e f =
         ap (λ (m : ℕ). bit m u) isExcluded
-        ∙ among-exactly (tasks d) (λ u. meet (d .row SME u) hand) (s .head .fits 0) u .holds (formed .sme u v e .0, meet-in (d .row SME u) hand v e f)
+        ∙ picked-in (λ u. meet (d .row SME u) hand) (tasks d) u hu (formed .sme u v e .0) (meet-in (d .row SME u) hand v e f)
 
     -- What is found in order p among them is what the rules ask of the order.
-    pub sme-found : (p : ℕ) → excluded < 2 ^ 64 → {held : ℕ} {v : Found} → held ≡ heldAmong d p c excluded
+    pub sme-found : (p : ℕ) {held : ℕ} {v : Found} → held ≡ bitAnd (heldBy d p c) excluded
         → v ≡ foundPair (between (d .row SME) held hand) → v ≡ foundPair (holds SME d c hand p)
-    sme-found p h = held-found SME p excluded h enough
+    sme-found p = held-found SME p excluded enough
 
     -- Where nothing is excluded, no order has a pair.
     pub none-excluded : excluded ≡ 0 → accepted ≡ givenLowestPair 33 (isOpen d) (holds SME d c hand) accepted
@@ -118,9 +101,10 @@ module _ (d : Book) (s : Sized d) (c hand : ℕ) (hc : c < 64) where
           ∙ ap (λ (q : ℕ). given (ltb q 64) (sayPair 33 (holds SME d c hand q) q) accepted) at
 
   -- 34, in order b alone, of all that c holds there.
-  module _ (b : ℕ) {held : ℕ} {v : Found} (isHeld : held ≡ heldAmong d b c (2 ^ 64 - 1 - 0)) (found : v ≡ foundPair (between (d .row DME) held hand)) where
+  module _ (b : ℕ) {held : ℕ} {v : Found} (isHeld : held ≡ bitAnd (heldBy d b c) (2 ^ 64 - 1 - 0))
+      (found : v ≡ foundPair (between (d .row DME) held hand)) where
     whole : v ≡ foundPair (holds DME d c hand b)
-    whole = held-found DME b (2 ^ 64 - 1 - 0) (omega arith) (λ u v hu e f. in-full u hu) isHeld found
+    whole = held-found DME b (2 ^ 64 - 1 - 0) (λ u v hu e f. in-full u hu) isHeld found
 
     pub dme-told : {x y : ℕ} → v ≡ Pair x y → sayXYZ 34 x y b ≡ givenPairIn 34 (holds DME d c hand b) b accepted
     dme-told e = sym (given-pair _ 34 b accepted whole e)

@@ -7,7 +7,7 @@ use Prim.Native.Nat.{ℕ, _-_, _^_, _<_}
 use native.Mathlib.Decide.{ℕ-discrete}
 use lib.Bits.{bitAnd, bitOr, or-lt, or-zero-r}
 use lib.Pow.{pow-lt}
-use Rattle.sets.specs.Mask.{bit, without, meet, only}
+use Rattle.sets.specs.Mask.{bit, without, meet, alone}
 use Rattle.sets.specs.Search.{lowest}
 use Rattle.sets.proofs.Logic.{not-both}
 use Rattle.sets.proofs.MaskLaws.{bit-ext, bit-lt, bit-none, bit-not, in-one, one-out, in-l, in-r, in-cases, in-both, both-out}
@@ -18,9 +18,7 @@ use Rattle.chains.proofs.RelationLaws.{chain-join}
 use Rattle.chains.proofs.ClosureLaws.{From, close-chain, from-close}
 use Rattle.rules.specs.Book.{Book, roles, juniors}
 use Rattle.rules.specs.Meaning.{Sized}
-use Rattle.rules.proofs.Exactly.{Exactly, itself, exactly-as, exactly-meet, exactly-same}
-use Rattle.search.specs.Among.{alone}
-use Rattle.search.proofs.AmongLaws.{among-exactly}
+use Rattle.rules.proofs.Exactly.{Exactly, itself, exactly-as, exactly-meet, exactly-picked, exactly-same}
 use Rattle.owners.specs.Rising.{seniors, above, Raised}
 use Rattle.owners.proofs.RisingLaws.{seniors-lt, above-lt}
 
@@ -37,7 +35,7 @@ module _ (d : Book) (s : Sized d) where
   one-up : (m r : ℕ) → m < 2 ^ 64 → In (roles d) r → meet (d .row juniors r) m ≡ true → (j : ℕ) × In m j × Step (seniors d) j r
   one-up m r h i e =
       let o = exactly-meet (d .row juniors r) m (s .rows juniors .fits r) h .means e in
-      (o .0, o .2, among-exactly (roles d) (λ k. bit (d .row juniors k) (o .0)) (s .head .fits 1) r .holds (i, o .1))
+      (o .0, o .2, exactly-picked (λ k. bit (d .row juniors k) (o .0)) (roles d) r (s .head .fits 1) (itself (bit (d .row juniors r) (o .0))) .holds (i, o .1))
 
   above-from : (m i : ℕ) → m < 2 ^ 64 → Exactly (bit (above d m) i) (From (seniors d) m i)
   above-from m i h = record { means = close-chain (seniors d) (seniors-lt d s) m i; holds = from-close (seniors d) (seniors-lt d s) m i h }
@@ -72,7 +70,7 @@ module _ (d : Book) (s : Sized d) where
       walk : {i k : ℕ} → In m i → Chain (Step (seniors d)) i k → In m k
       walk e stay = e
       walk e (more {j = j} {k = k} c q) =
-          let x = among-exactly (roles d) (λ r. bit (d .row juniors r) j) (s .head .fits 1) k .means q in
+          let x = exactly-picked (λ r. bit (d .row juniors r) j) (roles d) k (s .head .fits 1) (itself (bit (d .row juniors k) j)) .means q in
           closed k (bit-lt (roles d) k (s .head .fits 1) (x .0)) (x .0) (meet-in (d .row juniors k) m j (x .1) (walk e c))
 
   module _ (m : ℕ) (fits : m < 2 ^ 64) where

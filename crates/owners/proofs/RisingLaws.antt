@@ -1,18 +1,16 @@
 -- An owner owns a role, or one of some tasks, exactly if it starts with a role from which that is found upwards.
 -- So what document 01 asks of each owner is asked once, from the role or the tasks, and the owners are read off.
-use mathlib.Core.Path.{_≡_, refl, sym, ap, ap₂, _∙_, subst}
-use mathlib.Core.Bool.{Bool, true, false, _&&_}
+use mathlib.Core.Path.{_≡_, sym, ap, ap₂, _∙_, subst}
+use mathlib.Core.Bool.{Bool, true, _&&_}
 use Prim.Native.Nat.{ℕ, zero, _^_, _≤_, _<_}
 use native.Mathlib.Omega.{arith}
-use lib.Dec.{ltb}
-use lib.Bits.{bitAnd}
+use lib.Bits.{bitAnd, and-lt}
 use lib.Pow.{pow-lt}
-use borrow.Author.Tests.{ltb-true, lt-ltb}
-use Rattle.sets.specs.Mask.{bit, meet, only}
-use Rattle.sets.specs.Search.{lowest, paired}
-use Rattle.sets.proofs.Logic.{and-out, and-in, refute}
-use Rattle.sets.proofs.MaskLaws.{bit-and, bit-lt, in-one, one-out, zero-none, only-yes}
-use Rattle.sets.proofs.SearchLaws.{lowest-passes, lowest-some, lowest-same, lowest-most, lowest-end}
+use Rattle.sets.specs.Mask.{bit, meet, picked}
+use Rattle.sets.specs.Search.{lowest}
+use Rattle.sets.proofs.Logic.{and-out, refute}
+use Rattle.sets.proofs.MaskLaws.{bit-and, bit-ext, in-one, one-out, zero-none, only-lt, only-yes, picked-lt}
+use Rattle.sets.proofs.SearchLaws.{lowest-same, lowest-most, lowest-end}
 use Rattle.chains.specs.Closure.{close}
 use Rattle.chains.specs.Relation.{In, Step, Chain, stay, more}
 use Rattle.chains.proofs.RelationLaws.{chain-join}
@@ -20,41 +18,34 @@ use Rattle.chains.proofs.ClosureLaws.{close-lt, close-chain, from-close}
 use Rattle.rules.specs.Book.{Book, roles, subjects, tasks, SME, juniors, tasksOf, rolesOf}
 use Rattle.rules.specs.Meaning.{Sized, Formed, OwnedFrom}
 use Rattle.rules.specs.Trade as trade
+use Rattle.rules.specs.Numbers as numbers
 use Rattle.rules.specs.Numbers.{ownsBoth}
-use Rattle.rules.proofs.Exactly.{Exactly, itself, exactly-as, exactly-and, exactly-meet, exactly-same}
-use Rattle.rules.proofs.TradeLaws.{below-out, below-in, owned-out, owned-in}
-use Rattle.search.specs.declared.Found.the-variants.{Nothing}
-use Rattle.search.specs.Pairs.{foundPair}
-use Rattle.search.specs.Among.{among}
-use Rattle.search.proofs.AmongLaws.{among-exactly, among-lt}
-use Rattle.search.proofs.PairLaws.{nothing-at}
-use Rattle.owners.specs.Owners.{startOf, clashesBelow}
+use Rattle.rules.proofs.Exactly.{Exactly, itself, exactly-as, exactly-and, exactly-meet, exactly-only, exactly-picked, exactly-some, exactly-same}
+use Rattle.rules.proofs.TradeLaws.{below-out, below-in, owned-out, owned-in, owned-lt}
+use Rattle.owners.specs.Owners.{startOf, clashesBelow, foundClash}
 use Rattle.owners.specs.Rising.{seniors, above, ownersOf, starters, clashing, startsInBoth}
 use Rattle.owners.specs.declared.Owner.{Owner}
 use Rattle.owners.specs.declared.Owner.the-variants.{Role, Subject}
-
--- A search finds something exactly if some number passes.
-found : (f : ℕ → Bool) → Exactly (ltb (lowest f) 64) ((k : ℕ) × (k < 64) × (f k ≡ true))
-found f = record {
-  means = λ e. (let l = ltb-true (lowest f) 64 e in (lowest f, l, lowest-passes 64 0 f l));
-  holds = λ x. lt-ltb _ _ (lowest-some 64 0 f (x .0) (omega arith) (omega (arith, x .1)) (x .2));
-}
+use Rattle.owners.specs.declared.Clash.the-variants.{Nothing}
+use Rattle.owners.proofs.ClashLaws.{none-at}
 
 module _ (d : Book) (s : Sized d) where
   pub seniors-lt : (j : ℕ) → seniors d j < 2 ^ 64
-  seniors-lt j = among-lt (roles d) (λ i. bit (d .row juniors i) j)
+  seniors-lt j = picked-lt (λ i. bit (d .row juniors i) j) (roles d)
 
   pub above-lt : (m : ℕ) → m < 2 ^ 64 → above d m < 2 ^ 64
   above-lt m h = close-lt (seniors d) seniors-lt 64 m h
 
   pub owners-lt : (ts : ℕ) → ownersOf d ts < 2 ^ 64
-  owners-lt ts = above-lt _ (among-lt (roles d) (λ r. meet (d .row tasksOf r) ts))
+  owners-lt ts = above-lt _ (picked-lt (λ r. meet (d .row tasksOf r) ts) (roles d))
 
 -- In a well-formed book.
 module _ (d : Book) (s : Sized d) (f : Formed d) where
   -- A step up is a step down, turned; so are chains.
   senior : (j i : ℕ) → Exactly (bit (seniors d j) i) (Step (d .row juniors) i j)
-  senior j i = exactly-as (λ x. x .1) (λ e. (f .juniors-formed i j e .0, e)) (among-exactly (roles d) (λ k. bit (d .row juniors k) j) (s .head .fits 1) i)
+  senior j i =
+      exactly-as (λ x. x .1) (λ e. (f .juniors-formed i j e .0, e))
+      (exactly-picked (λ k. bit (d .row juniors k) j) (roles d) i (s .head .fits 1) (itself (bit (d .row juniors i) j)))
 
   chain-up : {i j : ℕ} → Chain (Step (d .row juniors)) i j → Chain (Step (seniors d)) j i
   chain-up stay = stay
@@ -76,11 +67,8 @@ module _ (d : Book) (s : Sized d) (f : Formed d) where
   starters-exactly Role m h o =
       exactly-as (λ e. (o, in-one o, e)) (λ x. subst (In m) (sym (one-out o (x .0) (x .1))) (x .2)) (itself (bit m o))
   starters-exactly Subject m h o =
-      exactly-as (λ x. meets .means (x .1)) (λ x. (f .roles-formed o (x .0) (x .1) .0, meets .holds x))
-      (among-exactly (subjects d) (λ k. meet (d .row rolesOf k) m) (s .head .fits 2) o)
-    where
-      meets : Exactly (meet (d .row rolesOf o) m) ((r : ℕ) × In (d .row rolesOf o) r × In m r)
-      meets = exactly-meet (d .row rolesOf o) m (s .rows rolesOf .fits o) h
+      exactly-as (λ x. x .1) (λ x. (f .roles-formed o (x .0) (x .1) .0, x))
+      (exactly-picked (λ k. meet (d .row rolesOf k) m) (subjects d) o (s .head .fits 2) (exactly-meet (d .row rolesOf o) m (s .rows rolesOf .fits o) h))
 
   start-lt : (owner : Owner) (o : ℕ) → o < 64 → startOf d owner o < 2 ^ 64
   start-lt Role o l = pow-lt l
@@ -102,24 +90,22 @@ module _ (d : Book) (s : Sized d) (f : Formed d) where
       → Exactly (bit (starters d owner (ownersOf d ts)) o) ((t : ℕ) × OwnedFrom d (startOf d owner o) t × In ts t)
   owns-one owner ts o h l = exactly-as down up (starters-exactly owner (ownersOf d ts) (owners-lt d s ts) o)
     where
-      have : (r : ℕ) → Exactly (bit (among (roles d) (λ k. meet (d .row tasksOf k) ts)) r) (In (roles d) r × (meet (d .row tasksOf r) ts ≡ true))
-      have = among-exactly (roles d) (λ k. meet (d .row tasksOf k) ts) (s .head .fits 1)
+      have : (r : ℕ) → Exactly (bit (picked (λ k. meet (d .row tasksOf k) ts) (roles d)) r) (In (roles d) r × ((t : ℕ) × In (d .row tasksOf r) t × In ts t))
+      have r = exactly-picked (λ k. meet (d .row tasksOf k) ts) (roles d) r (s .head .fits 1) (exactly-meet (d .row tasksOf r) ts (s .rows tasksOf .fits r) h)
 
       down : (r : ℕ) × In (startOf d owner o) r × In (ownersOf d ts) r → (t : ℕ) × OwnedFrom d (startOf d owner o) t × In ts t
       down x =
-          let w = above-exactly _ (among-lt (roles d) (λ r. meet (d .row tasksOf r) ts)) (x .0) .means (x .2) in
-          let q = have (w .0) .means (w .2) in
-          let t = exactly-meet (d .row tasksOf (w .0)) ts (s .rows tasksOf .fits (w .0)) h .means (q .1) in
+          let w = above-exactly _ (picked-lt (λ r. meet (d .row tasksOf r) ts) (roles d)) (x .0) .means (x .2) in
+          let t = have (w .0) .means (w .2) .1 in
           (t .0, (x .0, w .0, x .1, w .1, t .1), t .2)
 
       up : (t : ℕ) × OwnedFrom d (startOf d owner o) t × In ts t → (r : ℕ) × In (startOf d owner o) r × In (ownersOf d ts) r
       up y =
-          let w = y .1 in
-          let q = exactly-meet (d .row tasksOf (w .1)) ts (s .rows tasksOf .fits (w .1)) h .holds (y .0, w .4, y .2) in (
+          let w = y .1 in (
             w .0,
             w .2,
-            above-exactly _ (among-lt (roles d) (λ r. meet (d .row tasksOf r) ts)) (w .0) .holds
-                (w .1, w .3, have (w .1) .holds (f .tasks-formed (w .1) (y .0) (w .4) .0, q)),
+            above-exactly _ (picked-lt (λ r. meet (d .row tasksOf r) ts) (roles d)) (w .0) .holds
+                (w .1, w .3, have (w .1) .holds (f .tasks-formed (w .1) (y .0) (w .4) .0, (y .0, w .4, y .2))),
           )
 
   -- The owners of both tasks are those that start with an owner of each.
@@ -145,18 +131,29 @@ module _ (d : Book) (s : Sized d) (f : Formed d) where
     clashing-exactly : (t : ℕ) → Exactly (bit (clashing d gain) t) (meet (d .row SME t) gain ≡ true)
     clashing-exactly t =
         exactly-as (λ x. x .1) (λ e. (let o = exactly-meet (d .row SME t) gain (s .rows SME .fits t) hg .means e in (f .sme t (o .0) (o .1) .0, e)))
-        (among-exactly (tasks d) (λ k. meet (d .row SME k) gain) (s .head .fits 0) t)
+        (exactly-picked (λ k. meet (d .row SME k) gain) (tasks d) t (s .head .fits 0) (itself (meet (d .row SME t) gain)))
 
     clashing-lt : clashing d gain < 2 ^ 64
-    clashing-lt = among-lt (tasks d) (λ t. meet (d .row SME t) gain)
+    clashing-lt = picked-lt (λ t. meet (d .row SME t) gain) (tasks d)
+
+    -- Of what an owner owns those clash that are clashing tasks.
+    owned-clashing : (o : ℕ) → bitAnd (trade.ownedTasks d (startOf d owner o)) (clashing d gain)
+        ≡ numbers.clashing (d .row SME) gain (trade.ownedTasks d (startOf d owner o))
+    owned-clashing o =
+        let mine = trade.ownedTasks d (startOf d owner o) in
+        let small = owned-lt d s (startOf d owner o) in
+        bit-ext 64 _ _ (and-lt 64 mine (clashing d gain) small clashing-lt) (picked-lt (λ t. meet (d .row SME t) gain) mine) (λ t h.
+        bit-and mine (clashing d gain) t
+        ∙ exactly-same (exactly-and (itself (bit mine t)) (clashing-exactly t))
+        (exactly-picked (λ t. meet (d .row SME t) gain) mine t small (itself (meet (d .row SME t) gain))))
 
     -- An owner has a clash exactly if it owns role b and one of the clashing tasks ..
     has-clash : (o : ℕ) → o < 64
-        → startsInBoth d owner (above d (2 ^ b)) (ownersOf d (clashing d gain)) o ≡ paired (clashesBelow d owner b gain) o
+        → startsInBoth d owner (above d (2 ^ b)) (ownersOf d (clashing d gain)) o ≡ numbers.hasSome (clashesBelow d owner b gain) o
     has-clash o l =
         ap (λ (t : Bool). t && bit (starters d owner (ownersOf d (clashing d gain))) o) (owns-role owner b o hb l)
         ∙ exactly-same (exactly-and (itself own) (owns-one owner (clashing d gain) o clashing-lt l))
-        (exactly-as down up (found (clashesBelow d owner b gain o)))
+        (exactly-as down up (exactly-some (clashesBelow d owner b gain o) (only-lt own _ (picked-lt (λ t. meet (d .row SME t) gain) mine))))
       where
         own : Bool
         own = trade.ownsRole d (startOf d owner o) b
@@ -164,54 +161,47 @@ module _ (d : Book) (s : Sized d) (f : Formed d) where
         mine : ℕ
         mine = trade.ownedTasks d (startOf d owner o)
 
-        taken : (t : Bool) (k : ℕ) → bit (only t mine) k ≡ true → (t ≡ true) × (bit mine k ≡ true)
-        taken true k e = (refl, e)
-        taken false k e = absurd (zero-none k refl e)
+        one : (t : ℕ) → Exactly (bit (clashesBelow d owner b gain o) t) ((own ≡ true) × (In mine t × (meet (d .row SME t) gain ≡ true)))
+        one t = exactly-only own _ t (itself own)
+            (exactly-picked (λ t. meet (d .row SME t) gain) mine t (owned-lt d s (startOf d owner o)) (itself (meet (d .row SME t) gain)))
 
-        down : (k : ℕ) × (k < 64) × (clashesBelow d owner b gain o k ≡ true)
-            → (own ≡ true) × ((t : ℕ) × OwnedFrom d (startOf d owner o) t × In (clashing d gain) t)
+        down : (t : ℕ) × In (clashesBelow d owner b gain o) t → (own ≡ true) × ((t : ℕ) × OwnedFrom d (startOf d owner o) t × In (clashing d gain) t)
         down x =
-            let z = and-out (bit (only own mine) (x .0)) (meet (d .row SME (x .0)) gain) (x .2) in
-            let w = taken own (x .0) (z .0) in
-            (w .0, (x .0, owned-out d s (startOf d owner o) (x .0) (w .1), clashing-exactly (x .0) .holds (z .1)))
+            let w = one (x .0) .means (x .1) in
+            (w .0, (x .0, owned-out d s (startOf d owner o) (x .0) (w .1 .0), clashing-exactly (x .0) .holds (w .1 .1)))
 
-        up : (own ≡ true) × ((t : ℕ) × OwnedFrom d (startOf d owner o) t × In (clashing d gain) t)
-            → (k : ℕ) × (k < 64) × (clashesBelow d owner b gain o k ≡ true)
+        up : (own ≡ true) × ((t : ℕ) × OwnedFrom d (startOf d owner o) t × In (clashing d gain) t) → (t : ℕ) × In (clashesBelow d owner b gain o) t
         up y =
-            let t = y .1 .0 in (
-              t,
-              bit-lt (clashing d gain) t clashing-lt (y .1 .2),
-              and-in (ap (λ (x : ℕ). bit x t) (only-yes own mine (y .0)) ∙ owned-in d s (startOf d owner o) t (start-lt owner o l) (y .1 .1))
-                  (clashing-exactly t .means (y .1 .2)),
-            )
+            let t = y .1 .0 in
+            (t, one t .holds (y .0, (owned-in d s (startOf d owner o) t (start-lt owner o l) (y .1 .1), clashing-exactly t .means (y .1 .2))))
 
     -- .. so the lowest of those is the lowest with a clash,
-    pub first-owner : lowest (startsInBoth d owner (above d (2 ^ b)) (ownersOf d (clashing d gain))) ≡ lowest (paired (clashesBelow d owner b gain))
+    pub first-owner : lowest (startsInBoth d owner (above d (2 ^ b)) (ownersOf d (clashing d gain))) ≡ lowest (numbers.hasSome (clashesBelow d owner b gain))
     first-owner = lowest-same _ _ has-clash
 
-    -- and its lowest clash is the lowest clashing task that it owns.
-    pub first-task : (o : ℕ) → o < 64 → startsInBoth d owner (above d (2 ^ b)) (ownersOf d (clashing d gain)) o ≡ true
-        → lowest (bit (bitAnd (trade.ownedTasks d (startOf d owner o)) (clashing d gain))) ≡ lowest (clashesBelow d owner b gain o)
-    first-task o l e =
+    -- and its clash is all the clashing tasks that it owns.
+    pub whole-clash : (o : ℕ) → o < 64 → startsInBoth d owner (above d (2 ^ b)) (ownersOf d (clashing d gain)) o ≡ true
+        → bitAnd (trade.ownedTasks d (startOf d owner o)) (clashing d gain) ≡ clashesBelow d owner b gain o
+    whole-clash o l e =
         let own = sym (owns-role owner b o hb l) ∙ and-out _ _ e .0 in
-        lowest-same _ _ (λ t h. bit-and _ _ t ∙ ap₂ _&&_ (ap (λ (x : ℕ). bit x t) (sym (only-yes _ _ own))) (exactly-same (clashing-exactly t) (itself _)))
+        owned-clashing o ∙ sym (only-yes _ _ own)
 
     -- Where nobody starts in both, nobody has a clash: where no task clashes, where no role owns one, and where the search found nobody.
-    none : lowest (startsInBoth d owner (above d (2 ^ b)) (ownersOf d (clashing d gain))) ≡ 64 → Nothing ≡ foundPair (clashesBelow d owner b gain)
-    none e = nothing-at (clashesBelow d owner b gain) (sym e ∙ first-owner)
+    none : lowest (startsInBoth d owner (above d (2 ^ b)) (ownersOf d (clashing d gain))) ≡ 64 → Nothing ≡ foundClash (clashesBelow d owner b gain)
+    none e = none-at (clashesBelow d owner b gain) (sym e ∙ first-owner)
 
     holds : (o : ℕ) → startsInBoth d owner (above d (2 ^ b)) (ownersOf d (clashing d gain)) o ≡ true → In (starters d owner (ownersOf d (clashing d gain))) o
     holds o e = and-out (bit (starters d owner (above d (2 ^ b))) o) (bit (starters d owner (ownersOf d (clashing d gain))) o) e .1
 
-    pub no-holders : ownersOf d (clashing d gain) ≡ 0 → Nothing ≡ foundPair (clashesBelow d owner b gain)
+    pub no-holders : ownersOf d (clashing d gain) ≡ 0 → Nothing ≡ foundClash (clashesBelow d owner b gain)
     no-holders z =
         none (sym (lowest-end 64 _ (λ o l. refute _ (λ e.
         let x = starters-exactly owner (ownersOf d (clashing d gain)) (owners-lt d s (clashing d gain)) o .means (holds o e) in zero-none (x .0) z (x .2)))))
 
-    pub no-clashing : clashing d gain ≡ 0 → Nothing ≡ foundPair (clashesBelow d owner b gain)
+    pub no-clashing : clashing d gain ≡ 0 → Nothing ≡ foundClash (clashesBelow d owner b gain)
     no-clashing z =
         none (sym (lowest-end 64 _ (λ o l. refute _ (λ e.
         let x = owns-one owner (clashing d gain) o clashing-lt l .means (holds o e) in zero-none (x .0) z (x .2)))))
 
-    pub no-owner : 64 ≤ lowest (startsInBoth d owner (above d (2 ^ b)) (ownersOf d (clashing d gain))) → Nothing ≡ foundPair (clashesBelow d owner b gain)
+    pub no-owner : 64 ≤ lowest (startsInBoth d owner (above d (2 ^ b)) (ownersOf d (clashing d gain))) → Nothing ≡ foundClash (clashesBelow d owner b gain)
     no-owner h = none (omega (arith, lowest-most 64 0 (startsInBoth d owner (above d (2 ^ b)) (ownersOf d (clashing d gain)))))

@@ -3,16 +3,16 @@
 use mathlib.Core.Path.{_≡_}
 use mathlib.Core.Bool.{Bool, true, _&&_}
 use Prim.Native.Nat.{ℕ}
-use Rattle.sets.specs.Mask.{bit, within, meet}
+use Rattle.sets.specs.Mask.{bit, within, meet, picked}
 use Rattle.chains.specs.Closure.{close}
 use Rattle.rules.specs.Book.{Book, tasks, roles, subjects, SME, juniors, tasksOf, rolesOf}
-use Rattle.search.specs.Among.{among}
+use Rattle.rules.specs.Numbers as numbers
 use Rattle.owners.specs.declared.Owner.{Owner}
 use Rattle.owners.specs.declared.Owner.the-variants.{Role, Subject}
 
 -- the direct seniors of role j
 abbrev pub seniors : Book → ℕ → ℕ
-seniors d j = among (roles d) (λ i. bit (d .row juniors i) j)
+seniors d j = picked (λ i. bit (d .row juniors i) j) (roles d)
 
 -- the roles of m and all that reach one of them
 abbrev pub above : Book → ℕ → ℕ
@@ -24,16 +24,16 @@ Raised d m v = (within m v ≡ true) × (above d v ≡ above d m) × (v ≡ m �
 
 -- the roles that own one of the tasks
 abbrev pub ownersOf : Book → ℕ → ℕ
-ownersOf d ts = above d (among (roles d) (λ r. meet (d .row tasksOf r) ts))
+ownersOf d ts = above d (picked (λ r. meet (d .row tasksOf r) ts) (roles d))
 
 -- the owners that start with a role of m
 abbrev pub starters : Book → Owner → ℕ → ℕ
 starters d Role m = m
-starters d Subject m = among (subjects d) (λ s. meet (d .row rolesOf s) m)
+starters d Subject m = picked (λ s. meet (d .row rolesOf s) m) (subjects d)
 
--- the tasks that are SME to a gained one
+-- the defined tasks that are SME to a gained one
 abbrev pub clashing : Book → ℕ → ℕ
-clashing d gain = among (tasks d) (λ t. meet (d .row SME t) gain)
+clashing d gain = numbers.clashing (d .row SME) gain (tasks d)
 
 -- owner o starts with a role of xs and with one of ys
 abbrev pub startsInBoth : Book → Owner → ℕ → ℕ → ℕ → Bool

@@ -3,14 +3,19 @@ ghost use mathlib.Core.Path.{_≡_};
 ghost use Prim.Native.Nat.{_<_};
 ghost use Rattle.sets.specs.Search.{lowest};
 ghost use Rattle.book.specs.Slice.{tables, Full, WellFormed};
-ghost use Rattle.search.specs.Pairs.{foundPair};
-ghost use Rattle.owners.specs.Owners.{startOf, clashesBelow};
+ghost use Rattle.owners.specs.Owners.{startOf, clashesBelow, foundClash};
 ghost use Rattle.owners.specs.Rising.{above, Raised, ownersOf, starters, startsInBoth};
 
 // Whether numbers 0 to 63 stand for roles or for subjects.
 pub enum Owner {
     Role,
     Subject,
+}
+
+// What a search for a clash gives: an owner, with all tasks that it owns and that clash.
+pub enum Clash {
+    Owned(u64, u64),
+    Nothing,
 }
 
 // The roles that an owner starts with: a role with itself, a subject with its assigned roles.
@@ -85,23 +90,23 @@ pub fn lowest_starter(book: &[u64], owner: Owner, xs: u64, ys: u64) -> u64
     sets::lowest(starters(book, owner, xs) & starters(book, owner, ys))
 }
 
-// Among the owners of role b: the lowest that owns a task SME to one it would gain, and the lowest such task.
-pub fn first_clash(book: &[u64], owner: Owner, b: u64, gain: u64) -> search::Found
+// Among the owners of role b: the lowest that owns a task SME to one it would gain, and all tasks it owns that are.
+pub fn first_clash(book: &[u64], owner: Owner, b: u64, gain: u64) -> Clash
     requires { ⌜ WellFormed (now book) × (b < 64) ⌝ }
-    ensures { λ v. ⌜ v ≡ foundPair (clashesBelow (tables (now (book .entry))) owner b gain) ⌝ }
+    ensures { λ v. ⌜ v ≡ foundClash (clashesBelow (tables (now (book .entry))) owner b gain) ⌝ }
 {
     let clashing = search::meeting(book, book::SME, book::head(book, book::TASKS), gain);
     if clashing == 0 {
-        return search::Found::Nothing;
+        return Clash::Nothing;
     }
     let holders = owners_of(book, clashing);
     if holders == 0 {
-        return search::Found::Nothing;
+        return Clash::Nothing;
     }
     let o = lowest_starter(book, owner, above(book, sets::alone(b)), holders);
     if o >= 64 {
-        return search::Found::Nothing;
+        return Clash::Nothing;
     }
     let owned = trade::owned_tasks(book, start_of(book, owner, o));
-    search::Found::Pair(o, sets::lowest(owned & clashing))
+    Clash::Owned(o, owned & clashing)
 }

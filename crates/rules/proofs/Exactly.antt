@@ -1,16 +1,17 @@
 -- A test that holds exactly where a statement does, and how such tests are put together.
 -- The rules of the audit are tests made of `&&`, `not`, `all` and the like: what each stands for is read off by these laws.
 use mathlib.Core.Path.{_≡_, refl, sym, ap}
+use mathlib.Core.Logic.{_⊎_, inl, inr}
 use mathlib.Core.Bool.{Bool, true, false, _&&_, _||_, not, true≢false}
 use Prim.Native.Nat.{ℕ, _+_, _^_, _≤_, _<_}
 use native.Mathlib.Omega.{arith}
 use lib.Dec.{ltb, eqb}
 use borrow.Author.Tests.{eqb-true, eq-eqb, ltb-true, ltb-false, not-false}
-use Rattle.sets.specs.Mask.{within, meet}
+use Rattle.sets.specs.Mask.{bit, within, meet, only, picked}
 use Rattle.sets.specs.Search.{lowestFrom, all}
 use Rattle.sets.proofs.Logic.{and-out, and-in, or-fails-out, or-fails, not-both, refute, not-in, not-out}
-use Rattle.sets.proofs.MaskLaws.{within-out, within-in, meet-in}
-use Rattle.sets.proofs.SearchLaws.{lowest-passes, lowest-first, lowest-from, all-out, all-in, meet-out}
+use Rattle.sets.proofs.MaskLaws.{bit-lt, zero-none, none-zero, within-out, within-in, meet-in, picked-in, picked-out}
+use Rattle.sets.proofs.SearchLaws.{lowest-passes, lowest-first, lowest-from, all-out, all-in, some-or-none, meet-out}
 use Rattle.chains.specs.Relation.{In}
 use Rattle.rules.specs.Audit.{implies}
 
@@ -112,6 +113,35 @@ unless-found n i f = record {
       let z = ltb-true (lowestFrom n i f) (i + n) e in
       not-both _ (lowest-passes n i f z) (g (lowestFrom n i f) (lowest-from n i f) z));
 }
+
+-- A member of a set that counts only where the test holds.
+pub exactly-only : {P Q : Type 0} (t : Bool) (m i : ℕ) → Exactly t P → Exactly (bit m i) Q → Exactly (bit (only t m) i) (P × Q)
+exactly-only {P} {Q} t m i x y = record { means = λ e. out t refl e; holds = λ p. into t (x .holds (p .0)) (y .holds (p .1)) }
+  where
+    out : (s : Bool) → t ≡ s → bit (only s m) i ≡ true → P × Q
+    out true e q = (x .means e, y .means q)
+    out false e q = absurd (zero-none i refl q)
+
+    into : (s : Bool) → s ≡ true → bit m i ≡ true → bit (only s m) i ≡ true
+    into s e q = rw e q
+
+-- A member of a set that passes a test.
+pub exactly-picked : (f : ℕ → Bool) (m i : ℕ) {P : Type 0} → m < 2 ^ 64 → Exactly (f i) P → Exactly (bit (picked f m) i) (In m i × P)
+exactly-picked f m i h x = record {
+  means = λ e. (let w = picked-out f m i e in (w .0, x .means (w .1)));
+  holds = λ w. picked-in f m i (bit-lt m i h (w .0)) (w .0) (x .holds (w .1));
+}
+
+-- A set that is not empty.
+pub exactly-some : (m : ℕ) → m < 2 ^ 64 → Exactly (not (eqb m 0)) ((i : ℕ) × In m i)
+exactly-some m h = record {
+  means = λ e. out (some-or-none 64 (bit m)) e;
+  holds = λ w. not-in _ (λ e. zero-none (w .0) (eqb-true m 0 e) (w .1));
+}
+  where
+    out : ((i : ℕ) × (i < 64) × (bit m i ≡ true)) ⊎ ((i : ℕ) → i < 64 → bit m i ≡ false) → not (eqb m 0) ≡ true → (i : ℕ) × In m i
+    out (inl r) e = (r .0, r .2)
+    out (inr r) e = absurd (not-out _ e (eq-eqb m 0 (none-zero m h (λ j p. not-both (bit m j) p (r j (bit-lt m j h p))))))
 
 -- Of two sets of 64 bits:
 module _ (m n : ℕ) (hm : m < 2 ^ 64) (hn : n < 2 ^ 64) where

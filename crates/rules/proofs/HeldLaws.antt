@@ -1,23 +1,22 @@
 -- What a subject holds, as it is computed: the tasks of one order whose cells have its number, and those of all orders together.
 use mathlib.Core.Path.{_≡_, refl, sym, subst}
-use mathlib.Core.Logic.{inr}
 use mathlib.Core.Bool.{Bool, true, false}
 use Prim.Native.Nat.{ℕ, suc, _-_, _^_, _≤_, _<_}
 use native.Mathlib.Omega.{arith}
 use native.Mathlib.Decide.{decLt}
 use lib.Dec.{eqb}
-use lib.Pow.{pow-lt}
-use borrow.Author.Tests.{eqb-true, eq-eqb, ne-eqb}
+use borrow.Author.Tests.{eqb-true}
 use Rattle.sets.specs.Mask.{only}
 use Rattle.sets.proofs.Logic.{not-both, not-in}
-use Rattle.sets.proofs.MaskLaws.{bit-lt, in-one, one-out, in-full, none-zero, zero-none, only-lt, joined-in, joined-out, joined-lt}
+use Rattle.sets.proofs.MaskLaws.{bit-lt, in-full, none-zero, zero-none, only-lt, joined-in, joined-out, joined-lt, picked-lt}
 use Rattle.chains.specs.Relation.{Relation, In, Step}
 use Rattle.rules.specs.Book.{Book, subjects, orders, subjectIn}
 use Rattle.rules.specs.Requests.{isOpen}
-use Rattle.rules.specs.Numbers.{heldBy}
+use Rattle.rules.specs.Numbers.{inHand, heldBy}
 use Rattle.rules.specs.Audit.{heldAnywhere}
 use Rattle.rules.specs.Meaning.{Sized, Formed}
-use Rattle.rules.proofs.TradeLaws.{Shows, step-from, step-to}
+use Rattle.rules.proofs.Exactly.{exactly-eqb, exactly-picked}
+use Rattle.rules.proofs.TradeLaws.{Shows, step-from}
 
 -- Subject c holds task t in order p: t is a task of the order, and S in its cell is c.
 abbrev pub Holds : Book → ℕ → Relation
@@ -27,26 +26,9 @@ Holds d p c t = Step (d .row orders) p t × (subjectIn (d .cell p t) ≡ suc c)
 pub held-shows : (d : Book) → Sized d → (p : ℕ) → Shows (Holds d p) (heldBy d p)
 unfolding heldBy
 held-shows d s p = record {
-  fits = λ c h. joined-lt (mine c) (λ t. mine-lt c t (decLt t 64)) 64 (d .row orders p);
-  says = λ c t h. record {
-    means = λ e. (let w = joined-out (mine c) 64 (d .row orders p) t e in out c t (w .0) (w .1) (eqb (subjectIn (d .cell p (w .0))) (suc c)) refl (w .2));
-    holds = λ (i, e).
-        joined-in (mine c) 64 (d .row orders p) t t (step-to (s .rows orders) p t i) i (rw (eq-eqb (subjectIn (d .cell p t)) (suc c) e) (in-one t));
-  };
+  fits = λ c h. picked-lt (inHand d p c) (d .row orders p);
+  says = λ c t h. exactly-picked (inHand d p c) (d .row orders p) t (s .rows orders .fits p) (exactly-eqb (subjectIn (d .cell p t)) (suc c));
 }
-  where
-    mine : ℕ → ℕ → ℕ
-    mine c t = only (eqb (subjectIn (d .cell p t)) (suc c)) (2 ^ t)
-
-    mine-lt : (c t : ℕ) → Dec (t < 64) → mine c t < 2 ^ 64
-    mine-lt c t (yes h) = only-lt (eqb (subjectIn (d .cell p t)) (suc c)) (2 ^ t) (pow-lt h)
-    mine-lt c t (no h) =
-        let z = s .cells p t (inr (omega arith)) in
-        rw (ne-eqb (subjectIn (d .cell p t)) (suc c) (λ e. omega arith)) (omega arith)
-
-    out : (c t u : ℕ) → Step (d .row orders) p u → (b : Bool) → eqb (subjectIn (d .cell p u)) (suc c) ≡ b → In (only b (2 ^ u)) t → Holds d p c t
-    out c t u i true e q = subst (Holds d p c) (one-out u t q) (i, eqb-true (subjectIn (d .cell p u)) (suc c) e)
-    out c t u i false e q = absurd (zero-none t refl q)
 
 -- Subject c holds task t in one order or another.
 abbrev pub HoldsAnywhere : Book → Relation

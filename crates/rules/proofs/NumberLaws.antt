@@ -1,5 +1,5 @@
 -- What the answer 0 says: each test on the way fails, and the rest gives 0 too; and back.
--- Every refusal and conflict is asked by `given`, `givenLowest`, `givenPairIn` or `givenLowestPair`, so these laws read all of them.
+-- Every refusal and conflict is asked by `given`, `givenLowest`, `givenSet`, `givenPairIn` or `givenLowestPair`, so these laws read all of them.
 use mathlib.Core.Path.{_≡_, refl, ap, _∙_}
 use mathlib.Core.Bool.{Bool, true, false, not}
 use Prim.Native.Nat.{ℕ, _<_}
@@ -10,7 +10,7 @@ use Rattle.sets.proofs.Logic.{and-out, and-in, not-both, refute}
 use Rattle.sets.proofs.SearchLaws.{none-passes, none-found, no-pair, pair-none}
 use Rattle.rules.specs.Book.{Book, bookWords, firstBad}
 use Rattle.rules.specs.Requests.{Request, Row, rowOf, fits}
-use Rattle.rules.specs.Numbers.{Named, Said, accepted, says, given, givenLowest, somePair, givenPairIn, hasPair, givenLowestPair}
+use Rattle.rules.specs.Numbers.{Named, Said, accepted, says, given, givenLowest, hasSome, givenSet, somePair, givenPairIn, hasPair, givenLowestPair}
 use Rattle.rules.specs.Numbers.{argumentFault, stateRefusal, refusal, conflict, orElse, judge}
 use Rattle.rules.proofs.SaidLaws.{said-not-accepted}
 
@@ -34,6 +34,16 @@ lowest-out n f rest e = let g = given-out (ltb (lowest f) 64) n _ rest e in (non
 pub lowest-in : (n : ℕ) (f : ℕ → Bool) (rest : Said) → ((k : ℕ) → k < 64 → f k ≡ false) → rest ≡ accepted → givenLowest n f rest ≡ accepted
 unfolding givenLowest
 lowest-in n f rest h e = given-in (ltb (lowest f) 64) _ rest (none-found f h) e
+
+-- A search for a set that is not empty gives 0 exactly where all are empty, and the rest gives 0 ..
+pub set-out : (n : ℕ) (f : ℕ → ℕ) (rest : Said) → givenSet n f rest ≡ accepted → ((k : ℕ) → k < 64 → hasSome f k ≡ false) × (rest ≡ accepted)
+unfolding givenSet
+set-out n f rest e = let g = given-out (ltb (lowest (hasSome f)) 64) n _ rest e in (none-passes (hasSome f) (g .0), g .1)
+
+-- .. and back.
+pub set-in : (n : ℕ) (f : ℕ → ℕ) (rest : Said) → ((k : ℕ) → k < 64 → hasSome f k ≡ false) → rest ≡ accepted → givenSet n f rest ≡ accepted
+unfolding givenSet
+set-in n f rest h e = given-in (ltb (lowest (hasSome f)) 64) _ rest (none-found (hasSome f) h) e
 
 -- A search for a pair gives 0 exactly where no pair of numbers below 64 passes, and the rest gives 0 ..
 pub pair-out : (n : ℕ) (f : ℕ → ℕ → Bool) (z : ℕ) (rest : Said) → givenPairIn n f z rest ≡ accepted

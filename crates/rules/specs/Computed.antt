@@ -6,7 +6,8 @@ use Rattle.chains.specs.Closure.{widen, close, group}
 use Rattle.rules.specs.Book.{placeOf, read, write, badMask, names, badActive, badCell, rowTests, badRow, badCellAt, badAt, bad, firstBad}
 use Rattle.rules.specs.Trade.{below, reach, ownedTasks, subjectGroup, roleGroup}
 use Rattle.rules.specs.Requests.{table, rowOf, isOpen, fits, setRow, roleHand, subjectHand, stampedCell, change}
-use Rattle.rules.specs.Numbers.{given, givenLowest, givenPairIn, givenLowestPair, argumentFault, activeOwned, allocateRefusal, stateRefusal, refusal}
+use Rattle.rules.specs.Numbers.{given, givenLowest, givenSet, givenPairIn, givenLowestPair}
+use Rattle.rules.specs.Numbers.{argumentFault, activeOwned, allocateRefusal, stateRefusal, refusal}
 use Rattle.rules.specs.Numbers.{selfConstraint, alreadyDme, alreadySme, oneSubjectGroup, oneRoleGroup, roleOwnsBoth, subjectOwnsBoth}
 use Rattle.rules.specs.Numbers.{smeBetweenGroups, dmeBetweenGroups, selfInheritance, cycle, taskAssignment, roleAssignment, ownRoleAssignment}
 use Rattle.rules.specs.Numbers.{heldBy, heldSme, heldDme, smeConflicts, dmeConflicts, rbConflicts, sbConflicts, taskConflicts, juniorConflicts}
@@ -20,7 +21,7 @@ unfolding bit with without within meet joined lowestFrom all widen close group
     placeOf read write badMask names badActive badCell rowTests badRow badCellAt badAt bad firstBad
     below reach ownedTasks subjectGroup roleGroup
     table rowOf isOpen fits setRow roleHand subjectHand stampedCell change
-    given givenLowest givenPairIn givenLowestPair argumentFault activeOwned allocateRefusal stateRefusal refusal
+    given givenLowest givenSet givenPairIn givenLowestPair argumentFault activeOwned allocateRefusal stateRefusal refusal
     selfConstraint alreadyDme alreadySme oneSubjectGroup oneRoleGroup roleOwnsBoth subjectOwnsBoth smeBetweenGroups dmeBetweenGroups
     selfInheritance cycle taskAssignment roleAssignment ownRoleAssignment heldBy heldSme heldDme
     smeConflicts dmeConflicts rbConflicts sbConflicts taskConflicts juniorConflicts roleConflicts heldConflicts

@@ -1,9 +1,9 @@
--- Document 01, "The numbers that come back", with M-100 and M-104: refusals 1 to 11, the conflicts 20 to 34, the answer and the book afterwards.
+-- Document 01, "The numbers that come back", with M-100, M-104 and M-105: refusals 1 to 11, the conflicts 20 to 34, the answer and the book afterwards.
 use mathlib.Core.Bool.{Bool, true, false, _&&_, not}
 use mathlib.Core.List.{List, [], _∷_}
 use Prim.Native.Nat.{ℕ, suc, _-_, _^_}
 use lib.Dec.{ltb, eqb}
-use Rattle.sets.specs.Mask.{bit, meet, only, joined}
+use Rattle.sets.specs.Mask.{bit, meet, only, picked}
 use Rattle.sets.specs.Search.{lowest, paired}
 use Rattle.rules.specs.Book.{Book, bookWords, SME, DME, RB, SB, juniors, tasksOf, rolesOf, active, orders, roleIn, subjectIn, read, write, firstBad}
 use Rattle.rules.specs.Trade.{Owner, role, subject, reach, ownsRole, ownedTasks, subjectGroup, roleGroup}
@@ -57,6 +57,14 @@ given t s rest = elim t [ true ↦ s | false ↦ rest ]
 -- number n with the lowest that passes f as x
 unfoldable pub givenLowest : ℕ → (ℕ → Bool) → Said → Said
 givenLowest n f rest = let i = lowest f in given (ltb i 64) (sayX n i) rest
+
+-- the set of o is not empty
+abbrev pub hasSome : (ℕ → ℕ) → ℕ → Bool
+hasSome f o = not (eqb (f o) 0)
+
+-- number n with x the lowest whose set is not empty, and y that whole set
+unfoldable pub givenSet : ℕ → (ℕ → ℕ) → Said → Said
+givenSet n f rest = let i = lowest (hasSome f) in given (ltb i 64) (sayXY n i (f i)) rest
 
 -- some number has a partner
 abbrev pub somePair : (ℕ → ℕ → Bool) → Bool
@@ -196,16 +204,16 @@ selfInheritance d a b = given (eqb a b) (say 29)
 unfoldable pub cycle : Conflict
 cycle d a b = given (bit (reach d a) b) (say 30)
 
--- t is one of the owned tasks, SME to one that would be gained
-abbrev pub clash : (ℕ → ℕ) → ℕ → ℕ → ℕ → Bool
-clash sme gain owned t = bit owned t && meet (sme t) gain
+-- the owned tasks that are SME to one that would be gained
+abbrev pub clashing : (ℕ → ℕ) → ℕ → ℕ → ℕ
+clashing sme gain owned = picked (λ t. meet (sme t) gain) owned
 
--- the clashes of each owner that is asked
-abbrev pub clashes : Book → Owner → (ℕ → Bool) → ℕ → ℕ → ℕ → Bool
-clashes d start asked gain o = clash (d .row SME) gain (only (asked o) (ownedTasks d (start o)))
+-- those of each owner that is asked
+abbrev pub clashes : Book → Owner → (ℕ → Bool) → ℕ → ℕ → ℕ
+clashes d start asked gain o = only (asked o) (clashing (d .row SME) gain (ownedTasks d (start o)))
 
--- 31: x = lowest role, among b and its seniors, that owns a task SME to one it would gain; y = lowest such owned task
--- 32: x = lowest subject likewise, in kinds 8 and 9 among those owning role b
+-- 31: x = lowest role, among b and its seniors, that owns a task SME to one it would gain; y = the mask of all tasks it owns that are
+-- 32: x = lowest subject likewise, in kinds 8 and 9 among those owning role b; y likewise
 -- What is gained: task a in 8 ..
 abbrev pub gainedTask : Book → ℕ → ℕ
 gainedTask d a = 2 ^ a
@@ -215,18 +223,22 @@ abbrev pub gainedRole : Book → ℕ → ℕ
 gainedRole d a = ownedTasks d (role a)
 
 unfoldable pub taskAssignment : (Book → ℕ → ℕ) → Conflict
-taskAssignment gained d a b = givenPair 31 (clashes d role (λ o. ownsRole d (role o) b) (gained d a))
+taskAssignment gained d a b = givenSet 31 (clashes d role (λ o. ownsRole d (role o) b) (gained d a))
 
 unfoldable pub roleAssignment : (Book → ℕ → ℕ) → Conflict
-roleAssignment gained d a b = givenPair 32 (clashes d (subject d) (λ o. ownsRole d (subject d o) b) (gained d a))
+roleAssignment gained d a b = givenSet 32 (clashes d (subject d) (λ o. ownsRole d (subject d o) b) (gained d a))
 
 -- kind 10: b itself
 unfoldable pub ownRoleAssignment : Conflict
-ownRoleAssignment d a b = givenPair 32 (clashes d (subject d) (eqb b) (gainedRole d a))
+ownRoleAssignment d a b = givenSet 32 (clashes d (subject d) (eqb b) (gainedRole d a))
+
+-- the cell of task t in order b has subject c
+abbrev pub inHand : Book → ℕ → ℕ → ℕ → Bool
+inHand d b c t = eqb (subjectIn (d .cell b t)) (suc c)
 
 -- the tasks of order b that c holds
 unfoldable pub heldBy : Book → ℕ → ℕ → ℕ
-heldBy d b c = joined 64 (λ t. only (eqb (subjectIn (d .cell b t)) (suc c)) (2 ^ t)) (d .row orders b)
+heldBy d b c = picked (inHand d b c) (d .row orders b)
 
 -- c holds in order p a task x whose row of table n has a task y of the hand
 abbrev pub holds : ℕ → Book → ℕ → ℕ → ℕ → ℕ → ℕ → Bool

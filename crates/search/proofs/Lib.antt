@@ -1,3 +1,1 @@
 pub mod PairLaws
-pub mod AmongLaws
-pub mod FreeLaws

@@ -1,17 +1,16 @@
 // The searches of document 01's numbers: the lowest that passes, and x the lowest that has a partner, then y its lowest partner.
 // One pair search over any table serves 27, 28, 33 and 34; one search for the rows that meet a set, 25, 26, 31 to 33 and the audit; one
-// for the lowest of them, 32 and, as the test that a set holds no pair, rules 7 to 9.
+// test that a set holds no pair, rules 7 to 9.
 ghost use mathlib.Core.Path.{_≡_};
 ghost use Prim.Native.Nat.{_<_};
 ghost use Rattle.rules.specs.Book.{tableCount};
-ghost use Rattle.sets.specs.Mask.{meet};
+ghost use Rattle.sets.specs.Mask.{meet, alone, picked};
 ghost use Rattle.sets.specs.Search.{lowest};
 ghost use Rattle.rules.specs.Requests.{isOpen};
-ghost use Rattle.rules.specs.Numbers.{clash, between, outside};
+ghost use Rattle.rules.specs.Numbers.{between, outside};
 ghost use Rattle.rules.specs.Audit.{pairFree};
 ghost use Rattle.book.specs.Slice.{tables, Full};
 ghost use Rattle.search.specs.Pairs.{foundPair};
-ghost use Rattle.search.specs.Among.{alone, among};
 
 // What a search over pairs gives.
 pub enum Found {
@@ -56,7 +55,7 @@ pub fn meeting_row(book: &[u64], table: u64, set: u64, r: u64) -> u64
 // The numbers among `those` whose rows of the table meet the set.
 pub fn meeting(book: &[u64], table: u64, those: u64, set: u64) -> u64
     requires { ⌜ Full (now book) × (table < tableCount) ⌝ }
-    ensures { λ v. ⌜ v ≡ among those (λ i. meet ((tables (now (book .entry))) .row table i) set) ⌝ }
+    ensures { λ v. ⌜ v ≡ picked (λ i. meet ((tables (now (book .entry))) .row table i) set) those ⌝ }
 {
     let mut out = 0;
     let mut left = those;
@@ -67,28 +66,19 @@ pub fn meeting(book: &[u64], table: u64, those: u64, set: u64) -> u64
     out
 }
 
-// The lowest of those whose row of the table meets the set; 64 where there is none.
-pub fn lowest_meeting(book: &[u64], table: u64, those: u64, set: u64) -> u64
-    requires { ⌜ Full (now book) × (table < tableCount) ⌝ }
-    ensures { λ v. ⌜ v ≡ lowest (clash ((tables (now (book .entry))) .row table) set those) ⌝ }
-{
-    let mut left = those;
-    while left != 0 {
-        let t = sets::lowest(left);
-        if sets::meets(book::row(book, table, t), set) {
-            return t;
-        }
-        left = sets::rest(left);
-    }
-    64
-}
-
-// Whether the set holds no pair of the table.
+// Whether the set holds no pair of the table: no member's row meets the set.
 pub fn is_pair_free(book: &[u64], table: u64, set: u64) -> bool
     requires { ⌜ Full (now book) × (table < tableCount) ⌝ }
     ensures { λ r. ⌜ r ≡ pairFree ((tables (now (book .entry))) .row table) set ⌝ }
 {
-    lowest_meeting(book, table, set, set) >= 64
+    let mut left = set;
+    while left != 0 {
+        if sets::meets(book::row(book, table, sets::lowest(left)), set) {
+            return false;
+        }
+        left = sets::rest(left);
+    }
+    true
 }
 
 // The lowest of xs that is not in ys; 64 where there is none.

@@ -12,7 +12,7 @@ use lib.Dec.{eqb, eqb·zero-suc, eqb·suc-zero, eqb·suc-suc}
 use lib.Bits.{bitAnd, bitOr, and-shr, or-shr, and-mod, or-mod, and-mask, and-lt, and-le-l, or-lt}
 use lib.Pow.{pow-lt, pow-pos, shr-lt, shr-shr}
 use borrow.Author.Tests.{eqb-true, eq-eqb}
-use Rattle.sets.specs.Mask.{bit, with, without, within, meet, only, joined}
+use Rattle.sets.specs.Mask.{bit, with, without, within, meet, only, joined, alone, picked}
 use Rattle.sets.proofs.Logic.{and-out, and-in, or-in-l, or-in-r, or-out, not-both, refute}
 
 -- One digit at a time.
@@ -254,10 +254,48 @@ only-yes t x e = ap (λ (s : Bool). only s x) e
 pub only-no : (t : Bool) (x : ℕ) → t ≡ false → only t x ≡ 0
 only-no t x e = ap (λ (s : Bool). only s x) e
 
-pub joined-lt : (rows : ℕ → ℕ) → ((i : ℕ) → rows i < 2 ^ 64) → (n m : ℕ) → joined n rows m < 2 ^ 64
+-- Rows below n that are words are joined to a word ..
+joined-word : (rows : ℕ → ℕ) (n : ℕ) → ((i : ℕ) → i < n → rows i < 2 ^ 64) → (m : ℕ) → joined n rows m < 2 ^ 64
 unfolding joined
-joined-lt rows bound zero m = pow-pos 64
-joined-lt rows bound (suc n) m = or-lt 64 (joined n rows m) (only (bit m n) (rows n)) (joined-lt rows bound n m) (only-lt (bit m n) (rows n) (bound n))
+joined-word rows zero bound m = pow-pos 64
+joined-word rows (suc n) bound m =
+    or-lt 64 (joined n rows m) (only (bit m n) (rows n)) (joined-word rows n (λ i h. bound i (omega arith)) m)
+    (only-lt (bit m n) (rows n) (bound n (omega arith)))
+
+-- .. and so are rows that are all words.
+pub joined-lt : (rows : ℕ → ℕ) → ((i : ℕ) → rows i < 2 ^ 64) → (n m : ℕ) → joined n rows m < 2 ^ 64
+joined-lt rows bound n m = joined-word rows n (λ i h. bound i) m
+
+-- The members of a set that pass a test: who is one passes and is a member, and back.
+module _ (f : ℕ → Bool) (m : ℕ) where
+  pub picked-in : (i : ℕ) → i < 64 → bit m i ≡ true → f i ≡ true → bit (picked f m) i ≡ true
+  picked-in i h p q = joined-in (alone f) 64 m i i h p (ap (λ (x : ℕ). bit x i) (only-yes (f i) (2 ^ i) q) ∙ in-one i)
+
+  pub picked-out : (i : ℕ) → bit (picked f m) i ≡ true → (bit m i ≡ true) × (f i ≡ true)
+  picked-out i e = let w = joined-out (alone f) 64 m i e in go (w .0) (w .1) (f (w .0)) refl (w .2)
+    where
+      go : (j : ℕ) → bit m j ≡ true → (t : Bool) → f j ≡ t → bit (only t (2 ^ j)) i ≡ true → (bit m i ≡ true) × (f i ≡ true)
+      go j p true q r = subst (λ (x : ℕ). (bit m x ≡ true) × (f x ≡ true)) (one-out j i r) (p, q)
+      go j p false q r = absurd (zero-none i refl r)
+
+  -- They are a word.
+  pub picked-lt : picked f m < 2 ^ 64
+  picked-lt = joined-word (alone f) 64 (λ i h. only-lt (f i) (2 ^ i) (pow-lt h)) m
+
+-- It is the same whether a set is cut down first and then picked from, or picked from first.
+pub picked-both : (f : ℕ → Bool) (m n : ℕ) → picked f (bitAnd m n) ≡ bitAnd (picked f m) n
+picked-both f m n =
+    bit-ext 64 _ _ (picked-lt f (bitAnd m n)) (omega (arith, picked-lt f m, and-le-l (picked f m) n)) (λ i h. go i h (bit (bitAnd (picked f m) n) i) refl)
+  where
+    go : (i : ℕ) → i < 64 → (t : Bool) → bit (bitAnd (picked f m) n) i ≡ t → bit (picked f (bitAnd m n)) i ≡ bit (bitAnd (picked f m) n) i
+    go i h true e =
+        let w = both-out (picked f m) n i e in
+        let v = picked-out f m i (w .0) in
+        picked-in f (bitAnd m n) i h (in-both m n i (v .0) (w .1)) (v .1) ∙ sym e
+    go i h false e = refute _ (λ p.
+        let w = picked-out f (bitAnd m n) i p in
+        let v = both-out m n i (w .0) in
+        not-both _ (in-both (picked f m) n i (picked-in f m i h (v .0) (w .1)) (v .1)) e) ∙ sym e
 
 -- The machine's forms: (m >> i) & 1 is the digit, and 1 << i the set of one number.
 pub shift-and : (m i : ℕ) → bitAnd (m / 2 ^ i) 1 ≡ m / 2 ^ i % 2

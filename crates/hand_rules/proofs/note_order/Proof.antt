@@ -1,14 +1,13 @@
 -- What each subject is noted with, joined with what it holds of the tasks left, is what it was noted with and what it holds.
 use mathlib.Core.Path.{_≡_, ap, _∙_}
-use Prim.Native.Nat.{ℕ, suc, _^_, _<_}
+use Prim.Native.Nat.{ℕ, _^_, _<_}
 use native.Mathlib.Omega.{arith}
-use lib.Dec.{eqb}
 use lib.Bits.{bitOr}
 use lib.ListN.{length}
-use Rattle.sets.specs.Mask.{only, joined}
+use Rattle.sets.specs.Mask.{alone, picked}
 use Rattle.sets.proofs.MemberLaws.{lowest-lt, rest-lt, joined-on, joined-done}
-use Rattle.rules.specs.Book.{Book, subjectIn}
-use Rattle.rules.specs.Numbers.{heldBy}
+use Rattle.rules.specs.Book.{subjectIn}
+use Rattle.rules.specs.Numbers.{inHand, heldBy}
 use Rattle.rules.proofs.BookLaws.{read-sized}
 use Rattle.book.specs.Slice.{words, tables}
 use Rattle.hand_rules.proofs.HandLaws.{noted-joins}
@@ -17,14 +16,10 @@ use borrow.Author.Needs.{needs}
 use Rattle.hand_rules.proofs.note_order.Statement.{statement}
 use Rattle.hand_rules.proofs.note_order.Tie as tie
 
--- task t alone, where its cell in order p has subject k
-abbrev mine : Book → ℕ → ℕ → ℕ → ℕ
-mine d p k t = only (eqb (subjectIn (d .cell p t)) (suc k)) (2 ^ t)
-
 abbrev Inv-loop : tie.InvT-loop
 Inv-loop book order held₀ left₀ held left =
     (left < 2 ^ 64) × (length held ≡ 64)
-    × ((k : ℕ) → k < 64 → bitOr (words held k) (joined 64 (mine (tables book) order k) left) ≡ bitOr (words held₀ k) (heldBy (tables book) order k))
+    × ((k : ℕ) → k < 64 → bitOr (words held k) (picked (inHand (tables book) order k) left) ≡ bitOr (words held₀ k) (heldBy (tables book) order k))
 
 abbrev μ-loop : tie.MeasureT-loop
 μ-loop book order held₀ left₀ held left = left
@@ -39,7 +34,7 @@ loop-holds c =
       search needs,
       search needs,
       λ k h.
-          ap (λ (m : ℕ). bitOr (words (s .held .now) k) (joined 64 (mine (tables (s .book .now)) (s .order) k) m)) (c .row .ensures),
+          ap (λ (m : ℕ). bitOr (words (s .held .now) k) (picked (inHand (tables (s .book .now)) (s .order) k) m)) (c .row .ensures),
     )
 
 lowest-requires : tie.Need-lowest-requires Inv-loop μ-loop
@@ -82,10 +77,10 @@ loop-again c =
       omega (arith, c .rest .ensures, rest-lt (l .left) some (l .inv .0)),
       c .before .note .ensures .0,
       λ k h.
-          ap (λ (m : ℕ). bitOr m (joined 64 (mine d (s .order) k) (c .rest .result)))
+          ap (λ (m : ℕ). bitOr m (picked (inHand d (s .order) k) (c .rest .result)))
           (c .before .note .ensures .1 k ∙ noted-joins _ _ k (words (l .held) k))
           ∙ rw (hand, c .before .before .before .before .before .lowest .ensures, c .rest .ensures)
-          (joined-on (mine d (s .order) k) (words (l .held) k) some (l .inv .0) (l .inv .2 k h)),
+          (joined-on (alone (inHand d (s .order) k)) (words (l .held) k) some (l .inv .0) (l .inv .2 k h)),
     )
 
 returns : tie.Need-returns Inv-loop μ-loop
@@ -93,7 +88,7 @@ returns c =
     let s = c .before .before .before .before .args in
     let l = c .before .loop in
     let done = rw (c .loop-test .left) at (l .inv .2) in
-    (l .inv .1, λ k h. joined-done (mine (tables (s .book .now)) (s .order) k) (words (l .held) k) (done k h))
+    (l .inv .1, λ k h. joined-done (alone (inHand (tables (s .book .now)) (s .order) k)) (words (l .held) k) (done k h))
 
 pub note-order-spec : {M : Type 1} → statement M
 note-order-spec =

@@ -3,18 +3,20 @@ use mathlib.Core.Path.{_≡_, refl, ap, _∙_}
 use Prim.Native.Nat.{ℕ, _^_, _<_}
 use native.Mathlib.Omega.{arith}
 use lib.Bits.{bitAnd, bitOr, and-lt}
-use Rattle.sets.specs.Mask.{joined}
+use Rattle.sets.specs.Mask.{alone, picked}
+use Rattle.sets.proofs.MaskLaws.{picked-both}
 use Rattle.sets.proofs.MemberLaws.{lowest-lt, rest-lt, joined-on, joined-done}
+use Rattle.rules.specs.Book.{orders}
+use Rattle.rules.specs.Numbers.{inHand, heldBy}
 use Rattle.book.specs.Slice.{tables}
-use Rattle.hands.specs.Held.{heldRow, heldAmong}
 use borrow.Author.Needs.{needs}
 use Rattle.hands.proofs.held_among.Statement.{statement}
 use Rattle.hands.proofs.held_among.Tie as tie
 
 abbrev Inv-loop : tie.InvT-loop
 Inv-loop book order subject those held₀ left₀ held left =
-    let rows = heldRow (tables book) order subject in
-    (left < 2 ^ 64) × (bitOr held (joined 64 rows left) ≡ joined 64 rows left₀)
+    let mine = inHand (tables book) order subject in
+    (left < 2 ^ 64) × (bitOr held (picked mine left) ≡ picked mine left₀)
 
 abbrev μ-loop : tie.MeasureT-loop
 μ-loop book order subject those held₀ left₀ held left = left
@@ -48,16 +50,19 @@ loop-again c =
     let l = c .before .before .before .before .loop in
     rw (c .rest .ensures, c .before .held-row .ensures, c .before .before .lowest .ensures) (
       omega (arith, rest-lt (l .left) (omega arith) (l .inv .0)),
-      joined-on (heldRow (tables (s .book .now)) (s .order) (s .subject)) (l .held) (omega arith) (l .inv .0) (l .inv .1),
+      joined-on (alone (inHand (tables (s .book .now)) (s .order) (s .subject))) (l .held) (omega arith) (l .inv .0) (l .inv .1),
     )
 
 returns : tie.Need-returns Inv-loop μ-loop
-unfolding heldAmong
+unfolding heldBy
 returns c =
     let s = c .before .before .before .before .args in
     let l = c .before .loop in
-    let rows = heldRow (tables (s .book .now)) (s .order) (s .subject) in
-    joined-done rows (l .held) (rw (c .loop-test .left) at (l .inv .1)) ∙ ap (λ (m : ℕ). joined 64 rows (bitAnd m (s .those))) (c .before .before .row .ensures)
+    let d = tables (s .book .now) in
+    let mine = inHand d (s .order) (s .subject) in
+    joined-done (alone mine) (l .held) (rw (c .loop-test .left) at (l .inv .1))
+    ∙ ap (λ (m : ℕ). picked mine (bitAnd m (s .those))) (c .before .before .row .ensures)
+    ∙ picked-both mine (d .row orders (s .order)) (s .those)
 
 pub held-among-spec : {M : Type 1} → statement M
 held-among-spec =

@@ -56,7 +56,7 @@ returns-2 c =
     let found = sme-found d sized (s .c) (s .hand) (omega arith) (start .pre .0 .1)
     (rw (c .before .before .before .before .before .before .before .before .before .head .ensures) at
     (c .before .before .before .before .before .before .before .before .meeting .ensures))
-    (l .order) (search needs) (c .before .before .before .before .held-among .ensures) (c .before .before .before .first-pair .ensures) in
+    (l .order) (c .before .before .before .before .held-among .ensures) (c .before .before .before .first-pair .ensures) in
     let pair = c .before .x .given .1 in
     let at = search-at (excludedIn d (s .c) (s .hand)) (omega arith) (l .inv .1) (pair-here d sized (s .c) (s .hand) (omega arith) (l .order) found pair) in
     sme-told d sized (s .c) (s .hand) (omega arith) (l .order) found pair (omega arith) at
@@ -81,7 +81,7 @@ loop-again c =
     let found = sme-found d sized (s .c) (s .hand) (omega arith) (start .pre .0 .1)
     (rw (c .before .before .before .before .before .before .before .before .head .ensures) at
     (c .before .before .before .before .before .before .before .meeting .ensures))
-    (l .order) (search needs) (c .before .before .before .held-among .ensures) (c .before .before .first-pair .ensures) in (
+    (l .order) (c .before .before .before .held-among .ensures) (c .before .before .first-pair .ensures) in (
       omega arith,
       search-on (excludedIn d (s .c) (s .hand)) (omega arith) (l .inv .1)
           (none-here d sized (s .c) (s .hand) (omega arith) (l .order) found (c .enum-told .given .1)),

@@ -4,18 +4,17 @@ use mathlib.Core.Bool.{Bool}
 use Prim.Native.Nat.{ℕ, _^_, _<_}
 use native.Mathlib.Omega.{arith}
 use lib.Bits.{bitAnd}
-use Rattle.sets.specs.Mask.{bit, meet}
+use Rattle.sets.specs.Mask.{meet, picked}
 use Rattle.sets.specs.Search.{lowest}
 use Rattle.sets.proofs.SearchLaws.{lowest-passes}
 use Rattle.rules.specs.Book.{SME}
 use Rattle.rules.specs.Trade.{ownedTasks}
 use Rattle.rules.proofs.BookLaws.{read-sized}
 use Rattle.book.specs.Slice.{words, tables}
-use Rattle.search.proofs.PairLaws.{found-at}
 use Rattle.owners.specs.Owners.{clashesBelow}
-use Rattle.search.specs.Among.{among}
 use Rattle.owners.specs.Rising.{above, ownersOf, clashing, startsInBoth}
-use Rattle.owners.proofs.RisingLaws.{no-clashing, no-holders, no-owner, first-owner, first-task}
+use Rattle.owners.proofs.ClashLaws.{clash-at}
+use Rattle.owners.proofs.RisingLaws.{no-clashing, no-holders, no-owner, first-owner, whole-clash}
 use borrow.Author.Needs.{needs}
 use Rattle.owners.proofs.first_clash.Statement.{statement}
 use Rattle.owners.proofs.first_clash.Tie as tie
@@ -33,7 +32,7 @@ returns c =
     let d = tables (s .book .now) in
     let sized = read-sized (words (s .book .now)) (λ i. omega (arith, c .before .before .before .shared-slice-known .given i)) in
     no-clashing d sized (b .pre .0 .1) (s .owner) (s .b) (s .gain) (omega arith) (search needs)
-    (sym (c .before .meeting .ensures ∙ ap (λ (m : ℕ). among m (λ t. meet (d .row SME t) (s .gain))) (c .before .before .head .ensures)) ∙ c .if1 .taken)
+    (sym (c .before .meeting .ensures ∙ ap (λ (m : ℕ). picked (λ t. meet (d .row SME t) (s .gain)) m) (c .before .before .head .ensures)) ∙ c .if1 .taken)
 
 owners-of-requires : tie.Need-owners-of-requires
 owners-of-requires c κs = search needs
@@ -45,7 +44,7 @@ returns-2 c =
     let d = tables (s .book .now) in
     let sized = read-sized (words (s .book .now)) (λ i. omega (arith, c .before .before .before .before .before .shared-slice-known .given i)) in
     let some = c .before .before .before .meeting .ensures
-    ∙ ap (λ (m : ℕ). among m (λ t. meet (d .row SME t) (s .gain))) (c .before .before .before .before .head .ensures) in
+    ∙ ap (λ (m : ℕ). picked (λ t. meet (d .row SME t) (s .gain)) m) (c .before .before .before .before .head .ensures) in
     no-holders d sized (b .pre .0 .1) (s .owner) (s .b) (s .gain) (omega arith) (search needs)
     (sym (c .before .owners-of .ensures ∙ ap (ownersOf d) some) ∙ c .if2 .taken)
 
@@ -65,7 +64,7 @@ returns-3 c =
     let s = b .args in
     let d = tables (s .book .now) in
     let sized = read-sized (words (s .book .now)) (λ i. omega (arith, m .before .before .before .before .shared-slice-known .given i)) in
-    let some = m .before .before .meeting .ensures ∙ ap (λ (x : ℕ). among x (λ t. meet (d .row SME t) (s .gain))) (m .before .before .before .head .ensures) in
+    let some = m .before .before .meeting .ensures ∙ ap (λ (x : ℕ). picked (λ t. meet (d .row SME t) (s .gain)) x) (m .before .before .before .head .ensures) in
     let up = c .before .before .above .ensures ∙ ap (above d) (c .before .before .before .alone .ensures) in
     let at = c .before .lowest-starter .ensures
     ∙ ap₂ (λ (x y : ℕ). lowest (startsInBoth d (s .owner) x y)) up (m .owners-of .ensures ∙ ap (ownersOf d) some) in
@@ -77,30 +76,25 @@ start-of-requires c κs = search needs
 owned-tasks-requires : tie.Need-owned-tasks-requires
 owned-tasks-requires c κs = search needs
 
-lowest-requires : tie.Need-lowest-requires
-lowest-requires c κs = search needs
-
 returns-4 : tie.Need-returns-4
 returns-4 c =
-    let m = c .before .before .before .before .before .before .before .before in
+    let m = c .before .before .before .before .before .before .before in
     let b = m .before .before .before .before .before in
     let s = b .args in
     let d = tables (s .book .now) in
     let sized = read-sized (words (s .book .now)) (λ i. omega (arith, m .before .before .before .before .shared-slice-known .given i)) in
-    let some = m .before .before .meeting .ensures ∙ ap (λ (x : ℕ). among x (λ t. meet (d .row SME t) (s .gain))) (m .before .before .before .head .ensures) in
-    let up = c .before .before .before .before .before .above .ensures ∙ ap (above d) (c .before .before .before .before .before .before .alone .ensures) in
-    let at = c .before .before .before .before .lowest-starter .ensures
+    let some = m .before .before .meeting .ensures ∙ ap (λ (x : ℕ). picked (λ t. meet (d .row SME t) (s .gain)) x) (m .before .before .before .head .ensures) in
+    let up = c .before .before .before .before .above .ensures ∙ ap (above d) (c .before .before .before .before .before .alone .ensures) in
+    let at = c .before .before .before .lowest-starter .ensures
     ∙ ap₂ (λ (x y : ℕ). lowest (startsInBoth d (s .owner) x y)) up (m .owners-of .ensures ∙ ap (ownersOf d) some) in
-    let o = c .before .before .before .before .lowest-starter .result in
+    let o = c .before .before .before .lowest-starter .result in
     let l : o < 64 = omega arith in
     let starts : ℕ → Bool = startsInBoth d (s .owner) (above d (2 ^ s .b)) (ownersOf d (clashing d (s .gain))) in
     let holds = ap starts at ∙ lowest-passes 64 0 starts (omega (arith, at)) in
-    found-at (clashesBelow d (s .owner) (s .b) (s .gain)) o (c .lowest .result) l
+    clash-at (clashesBelow d (s .owner) (s .b) (s .gain)) o _ l
     (at ∙ first-owner d sized (b .pre .0 .1) (s .owner) (s .b) (s .gain) (omega arith) (search needs))
-    (c .lowest .ensures
-    ∙ ap₂ (λ (x y : ℕ). lowest (bit (bitAnd x y)))
-    (c .before .owned-tasks .ensures ∙ ap (ownedTasks d) (c .before .before .start-of .ensures)) some
-    ∙ first-task d sized (b .pre .0 .1) (s .owner) (s .b) (s .gain) (omega arith) (search needs) o l holds)
+    (ap₂ bitAnd (c .owned-tasks .ensures ∙ ap (ownedTasks d) (c .before .start-of .ensures)) some
+    ∙ whole-clash d sized (b .pre .0 .1) (s .owner) (s .b) (s .gain) (omega arith) (search needs) o l holds)
 
 pub first-clash-spec : {M : Type 1} → statement M
 first-clash-spec =
@@ -117,5 +111,4 @@ first-clash-spec =
     returns-3
     start-of-requires
     owned-tasks-requires
-    lowest-requires
     returns-4)

@@ -1,10 +1,9 @@
 -- The roles that have one of the tasks, and all above them.
 use mathlib.Core.Path.{ap, _∙_}
 use Prim.Native.Nat.{ℕ}
-use Rattle.sets.specs.Mask.{meet}
+use Rattle.sets.specs.Mask.{meet, picked}
 use Rattle.rules.specs.Book.{tasksOf}
 use Rattle.book.specs.Slice.{tables}
-use Rattle.search.specs.Among.{among}
 use Rattle.owners.specs.Rising.{above}
 use borrow.Author.Needs.{needs}
 use Rattle.owners.proofs.owners_of.Statement.{statement}
@@ -24,7 +23,7 @@ returns c =
     let s = c .before .before .before .before .args in
     let d = tables (s .book .now) in
     c .above .ensures
-    ∙ ap (above d) (c .before .meeting .ensures ∙ ap (λ (m : ℕ). among m (λ r. meet (d .row tasksOf r) (s .tasks))) (c .before .before .head .ensures))
+    ∙ ap (above d) (c .before .meeting .ensures ∙ ap (λ (m : ℕ). picked (λ r. meet (d .row tasksOf r) (s .tasks)) m) (c .before .before .head .ensures))
 
 pub owners-of-spec : {M : Type 1} → statement M
 owners-of-spec = tie.close (tie.spec head-requires meeting-requires above-requires returns)

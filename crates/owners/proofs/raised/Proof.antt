@@ -3,12 +3,11 @@ use mathlib.Core.Path.{ap, _∙_, subst}
 use Prim.Native.Nat.{_-_, _^_, _<_}
 use native.Mathlib.Omega.{arith}
 use lib.Bits.{and-lt}
-use Rattle.sets.specs.Mask.{meet}
+use Rattle.sets.specs.Mask.{meet, alone}
 use Rattle.sets.proofs.MemberLaws.{lowest-lt, rest-lt}
 use Rattle.rules.specs.Book.{juniors}
 use Rattle.rules.proofs.BookLaws.{read-sized}
 use Rattle.book.specs.Slice.{words, tables}
-use Rattle.search.specs.Among.{alone}
 use Rattle.owners.proofs.RaisedLaws.{Raising, raise-start, raise-on, raise-done}
 use borrow.Author.Needs.{needs}
 use Rattle.owners.proofs.raised.Statement.{statement}

@@ -1,10 +1,9 @@
 -- A role starts with itself, a subject with the roles in its row.
 use mathlib.Core.Path.{sym, ap, _∙_}
 use Prim.Native.Nat.{ℕ}
-use Rattle.sets.specs.Mask.{meet}
+use Rattle.sets.specs.Mask.{meet, picked}
 use Rattle.rules.specs.Book.{rolesOf}
 use Rattle.book.specs.Slice.{tables}
-use Rattle.search.specs.Among.{among}
 use Rattle.owners.specs.Rising.{starters}
 use Rattle.owners.specs.declared.Owner.{Owner}
 use borrow.Author.Needs.{needs}
@@ -32,7 +31,7 @@ returns-2 : tie.Need-returns-2
 returns-2 c =
     let s = c .before .before .before .before .before .args in
     let d = tables (s .book .now) in
-    c .meeting .ensures ∙ ap (λ (m : ℕ). among m (λ i. meet (d .row rolesOf i) (s .set))) (c .before .head .ensures)
+    c .meeting .ensures ∙ ap (λ (m : ℕ). picked (λ i. meet (d .row rolesOf i) (s .set)) m) (c .before .head .ensures)
     ∙ ap (λ (w : Owner). starters d w (s .set)) (sym (c .before .before .enum-told2 .given .1))
 
 pub starters-spec : {M : Type 1} → statement M

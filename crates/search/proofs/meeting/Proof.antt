@@ -3,17 +3,16 @@ use mathlib.Core.Path.{_≡_, refl, ap, ap₂, _∙_}
 use Prim.Native.Nat.{ℕ, _^_, _<_}
 use native.Mathlib.Omega.{arith}
 use lib.Bits.{bitOr}
-use Rattle.sets.specs.Mask.{meet, joined}
+use Rattle.sets.specs.Mask.{meet, joined, alone, picked}
 use Rattle.sets.proofs.MemberLaws.{lowest-lt, rest-lt, joined-on, joined-done}
 use Rattle.book.specs.Slice.{tables}
-use Rattle.search.specs.Among.{alone, among}
 use borrow.Author.Needs.{needs}
 use Rattle.search.proofs.meeting.Statement.{statement}
 use Rattle.search.proofs.meeting.Tie as tie
 
 abbrev Inv-loop : tie.InvT-loop
 Inv-loop book table those set out₀ left₀ out left =
-    (left < 2 ^ 64) × (bitOr out (among left (λ i. meet ((tables book) .row table i) set)) ≡ among those (λ i. meet ((tables book) .row table i) set))
+    (left < 2 ^ 64) × (bitOr out (picked (λ i. meet ((tables book) .row table i) set) left) ≡ picked (λ i. meet ((tables book) .row table i) set) those)
 
 abbrev μ-loop : tie.MeasureT-loop
 μ-loop book table those set out₀ left₀ out left = left
