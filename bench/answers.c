@@ -40,15 +40,17 @@ static void put(u64 *book, u64 *twin, request q, u64 answer[4])
 }
 
 /*
- * The other program's book is document 01's: there kind 10 sets an active word, which since M-101 it does not. Its audit asks less in rule
- * 9, so a book that passes ours passes it as well, and one with a bad word is told alike: the books here are no others.
+ * The other program's book is document 01's: there kind 10 sets an active word, which since M-101 it does not, and 31 and 32 name the
+ * lowest task of those that ours has all of since M-105. Its audit asks less in rule 9, so a book that passes ours passes it as well, and
+ * one with a bad word is told alike: the books here are no others.
  */
 static void put_beside(request q, const u64 answer[4])
 {
     u64 told[4];
     if (!is_there(OTHER) || !knows(OTHER, q.kind)) return;
     call(OTHER, copies[OTHER], q, told);
-    int same = same_answer(answer, told) && same_words(copies[LIBRARY], copies[OTHER], 0, ACTIVE);
+    const u64 asked[4] = {answer[0], answer[1], lowest_y(answer), answer[3]};
+    int same = same_answer(asked, told) && same_words(copies[LIBRARY], copies[OTHER], 0, ACTIVE);
     same &= q.kind == 10 || same_words(copies[LIBRARY], copies[OTHER], ACTIVE, ACTIVE + 64);
     put_to_other++;
     other_differing += !(same && same_words(copies[LIBRARY], copies[OTHER], ACTIVE + 64, WORDS));

@@ -53,6 +53,9 @@ typedef struct { request q; int form; u64 number, found; } path;
 /* The paths of a kind on book n: for each number that it is answered, where the search ends soonest and where it goes furthest. */
 int paths_of(u64 kind, int n, path paths[PATHS]);
 
+/* y, and where that is a mask of tasks (31 and 32, since M-105) the lowest of them, which is what document 01 has there */
+u64 lowest_y(const u64 answer[4]);
+
 /* the request of the mixed stream that comes next, on book n */
 enum { STREAM = 1000 };
 request stream_request(u64 *state, int n);

@@ -1,7 +1,7 @@
 /*
- * The duty book in plain C, written by hand from document 01 with M-100, M-101 and M-104: sets are masks, a loop visits only the members of
- * a mask, a closure reads each row once, and what the answer does not need is not looked for. It proves nothing; bench/run holds the
- * library to its answers and to its speed.
+ * The duty book in plain C, written by hand from document 01 with M-100, M-101, M-104 and M-105: sets are masks, a loop visits only the
+ * members of a mask, a closure reads each row once, and what the answer does not need is not looked for. It proves nothing; bench/run
+ * holds the library to its answers and to its speed.
  */
 #include "plain.h"
 
@@ -250,35 +250,39 @@ static reply binding_conflict(const u64 *book, u64 kind, u64 a, u64 b)
     return pair_between(book, 28, DME, subject_group(book, a), subject_group(book, b));
 }
 
-/* the lowest task of a set that excludes one of the others by a table, or 64 */
-static u64 clash(const u64 *book, u64 table, u64 tasks, u64 others)
+/* the tasks of a set that exclude one of the others by a table */
+static u64 excluding(const u64 *book, u64 table, u64 tasks, u64 others)
 {
+    u64 set = 0;
     for (u64 left = tasks, t; take(&left, &t);)
-        if (book[table + t] & others) return t;
-    return 64;
+        if (book[table + t] & others) set |= one(t);
+    return set;
 }
 
-/* 31 of the roles, 32 of the subjects: the lowest that owns role b and a task SME to a gained one */
-static reply owner_clash(const u64 *book, u64 number, u64 b, u64 gain)
+/* 31 of the roles, 32 of the subjects: the lowest that owns role b and a rival of what is gained, and all rivals that it owns */
+static reply owner_clash(const u64 *book, u64 number, u64 b, u64 rivals)
 {
     for (u64 left = book[number == 31 ? ROLES : SUBJECTS], o; take(&left, &o);) {
         u64 roles = below(book, number == 31 ? one(o) : book[ROLES_OF + o]);
         if (!has(roles, b)) continue;
-        u64 t = clash(book, SME, tasks_of(book, roles), gain);
-        if (t < 64) return say(number, o, t);
+        u64 clash = tasks_of(book, roles) & rivals;
+        if (clash) return say(number, o, clash);
     }
     return say(0, 0, 0);
 }
 
+/* What is SME to a gained task is the same for every owner, so it is found once, and often there is nothing to look for. */
 static reply gain_conflict(const u64 *book, u64 b, u64 gain)
 {
-    reply r = owner_clash(book, 31, b, gain);
-    return r.number ? r : owner_clash(book, 32, b, gain);
+    u64 rivals = excluding(book, SME, book[TASKS], gain);
+    if (rivals == 0) return say(0, 0, 0);
+    reply r = owner_clash(book, 31, b, rivals);
+    return r.number ? r : owner_clash(book, 32, b, rivals);
 }
 
 static reply conflict(const u64 *book, u64 kind, u64 a, u64 b)
 {
-    u64 t;
+    u64 clash;
     switch (kind) {
     case 4: return sme_conflict(book, a, b);
     case 5: return dme_conflict(book, a, b);
@@ -289,8 +293,8 @@ static reply conflict(const u64 *book, u64 kind, u64 a, u64 b)
         if (has(reach(book, a), b)) return say(30, 0, 0);
         return gain_conflict(book, b, owned_tasks(book, one(a)));
     case 10:
-        t = clash(book, SME, owned_tasks(book, book[ROLES_OF + b]), owned_tasks(book, one(a)));
-        return t < 64 ? say(32, b, t) : say(0, 0, 0);
+        clash = excluding(book, SME, owned_tasks(book, book[ROLES_OF + b]), owned_tasks(book, one(a)));
+        return clash ? say(32, b, clash) : say(0, 0, 0);
     default: return say(0, 0, 0);
     }
 }
@@ -337,15 +341,6 @@ static reply hand_fault(const u64 *book, u64 cell, u64 c)
     if (cell & 127) return say(9, (cell & 127) - 1, 0);
     if (cell && cell >> 7 != e) return say(10, (cell >> 7) - 1, 0);
     return say(0, 0, 0);
-}
-
-/* the tasks of a set that exclude one of the hand by a table: whoever holds one of them cannot get the hand */
-static u64 excluding(const u64 *book, u64 table, u64 tasks, u64 hand)
-{
-    u64 set = 0;
-    for (u64 left = tasks, t; take(&left, &t);)
-        if (book[table + t] & hand) set |= one(t);
-    return set;
 }
 
 /* the conflict with the lowest task of a set that subject c holds in order p */
@@ -435,13 +430,19 @@ static int reaches_itself(const u64 *book)
     return 0;
 }
 
+/* whether a task of a set excludes another of it by a table, or itself */
+static int clashes(const u64 *book, u64 table, u64 tasks)
+{
+    for (u64 left = tasks, t; take(&left, &t);)
+        if (book[table + t] & tasks) return 1;
+    return 0;
+}
+
 /* rule 7 of the roles, rule 8 of the subjects */
 static int owns_excluding(const u64 *book, int rule)
 {
-    for (u64 left = book[rule == 7 ? ROLES : SUBJECTS], o; take(&left, &o);) {
-        u64 owned = owned_tasks(book, rule == 7 ? one(o) : book[ROLES_OF + o]);
-        if (clash(book, SME, owned, owned) < 64) return 1;
-    }
+    for (u64 left = book[rule == 7 ? ROLES : SUBJECTS], o; take(&left, &o);)
+        if (clashes(book, SME, owned_tasks(book, rule == 7 ? one(o) : book[ROLES_OF + o]))) return 1;
     return 0;
 }
 
@@ -470,13 +471,13 @@ static int holds_excluding(const u64 *book)
         u64 holders = gather(here, book + CELLS + 64 * p, book[ORDERS + p]);
         everyone |= holders;
         while (take(&holders, &s)) {
-            if (clash(book, DME, here[s], here[s]) < 64) return 1;
+            if (clashes(book, DME, here[s])) return 1;
             anywhere[s] |= here[s];
             here[s] = 0;
         }
     }
     while (take(&everyone, &s))
-        if (clash(book, SME, anywhere[s], anywhere[s]) < 64) return 1;
+        if (clashes(book, SME, anywhere[s])) return 1;
     return 0;
 }
 

@@ -54,14 +54,20 @@ enum { SME = 4 };
 static path soonest[NUMBERS_OF_A_KIND], furthest[NUMBERS_OF_A_KIND];
 static int numbers_given;
 
+u64 lowest_y(const u64 answer[4])
+{
+    int is_mask = (answer[0] == 31 || answer[0] == 32) && answer[2] != 0;
+    return is_mask ? (u64)__builtin_ctzll(answer[2]) : answer[2];
+}
+
 /*
- * How far the search went that ended with this answer: by orders, then by x, then by y. An accepted request found nothing; one of kind 13
- * goes further where its task is SME to another, since all open orders are looked through then.
+ * How far the search went that ended with this answer: by orders, then by x, then by y, or by the lowest task there. An accepted request
+ * found nothing; one of kind 13 goes further where its task is SME to another, since all open orders are looked through then.
  */
 static u64 found_at(request q, const u64 *book, const u64 answer[4])
 {
     if (answer[0] == 0) return q.kind == 13 && book[SME + q.a] != 0;
-    return 64 * (64 * answer[3] + answer[1]) + answer[2];
+    return 64 * (64 * answer[3] + answer[1]) + lowest_y(answer);
 }
 
 /* the path that a request goes by plain C, on scratch, which is as the book again afterwards */

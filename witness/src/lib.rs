@@ -1,4 +1,4 @@
-//! The witness: document 01 with M-100 to M-104, read literally, so that its answers can be held beside those of the
+//! The witness: document 01 with M-100 to M-105, read literally, so that its answers can be held beside those of the
 //! duty book.
 //!
 //! `set`, `book` and `trade` say what the words mean, `request` and `audit` are the rules,

@@ -1,5 +1,5 @@
-//! "Requests" and "The numbers that come back", with the kinds of M-100, kind 10 of M-101 and number 33 of M-104:
-//! refusals 1 to 11, the conflicts, the change.
+//! "Requests" and "The numbers that come back", with the kinds of M-100, kind 10 of M-101, number 33 of M-104 and the
+//! masks of M-105: refusals 1 to 11, the conflicts, the change.
 
 use crate::book::{lowest_bad_word, Book, Cell, Table, EMPTY_CELL, WORDS};
 use crate::set::Set;
@@ -147,15 +147,15 @@ fn conflict(book: &Book, kind: u64, a: u64, b: u64, c: u64) -> Option<Answer> {
         13 => &[33, 34],
         _ => &[],
     };
-    let without_z = |(x, y): (usize, usize)| (x, y, 0);
+    let numbers = |(x, y, z): (usize, usize, usize)| (x as u64, y as u64, z as u64);
     list.iter().find_map(|&number| {
         let told = match number {
-            31 | 32 => gaining_conflict(book, number, kind, a, b).map(without_z),
-            33 => static_conflict(book, a, b, c),
-            34 => dynamic_conflict(book, a, b, c),
-            _ => pair_conflict(book, number, a, b).map(without_z),
+            31 | 32 => gaining_conflict(book, number, kind, a, b).map(|(x, clash)| (x as u64, clash.mask(), 0)),
+            33 => static_conflict(book, a, b, c).map(numbers),
+            34 => dynamic_conflict(book, a, b, c).map(numbers),
+            _ => pair_conflict(book, number, a, b).map(|(x, y)| numbers((x, y, 0))),
         };
-        told.map(|(x, y, z)| (number, x as u64, y as u64, z as u64))
+        told.map(|(x, y, z)| (number, x, y, z))
     })
 }
 
@@ -183,9 +183,10 @@ fn lowest_pair(xs: &Set, table: &Table, ys: &Set) -> Option<(usize, usize)> {
     xs.members().find_map(|x| table[x].and(ys).members().next().map(|y| (x, y)))
 }
 
-/// Conflicts 31 and 32: x the lowest role or subject that owns a task SME to one it would gain,
-/// y its lowest such task. Owned is what it owns before the change; a gained task may be among that.
-fn gaining_conflict(book: &Book, number: u64, kind: u64, a: usize, b: usize) -> Option<(usize, usize)> {
+/// Conflicts 31 and 32: x the lowest role or subject that owns a task SME to one it would gain. M-105, over document 01:
+/// y is "the mask of all tasks the named role or subject owns that are SME to one it would gain", of x and nobody else.
+/// Owned is what it owns before the change; a gained task may be among that.
+fn gaining_conflict(book: &Book, number: u64, kind: u64, a: usize, b: usize) -> Option<(usize, Set)> {
     let gained = match kind {
         8 => Set::of(&[a]),
         _ => tasks_owned_by_role(book, a),
@@ -199,10 +200,17 @@ fn gaining_conflict(book: &Book, number: u64, kind: u64, a: usize, b: usize) -> 
         31 => tasks_owned_by_role(book, x),
         _ => tasks_owned_by_subject(book, x),
     };
-    (0..64).filter(|&x| would_gain(x)).find_map(|x| {
-        let is_sme_to_gained = |&u: &usize| !book.sme[u].and(&gained).is_empty();
-        owned_by(x).members().find(is_sme_to_gained).map(|y| (x, y))
-    })
+    let mut clashes = (0..64).filter(|&x| would_gain(x)).map(|x| (x, sme_to_one_of(book, &owned_by(x), &gained)));
+    clashes.find(|(_, clash)| !clash.is_empty())
+}
+
+/// Those of the owned tasks that are SME to a gained one: "the gained task in the owned task's row".
+fn sme_to_one_of(book: &Book, owned: &Set, gained: &Set) -> Set {
+    let mut clash = Set::empty();
+    for u in owned.members().filter(|&u| !book.sme[u].and(gained).is_empty()) {
+        clash.put(u);
+    }
+    clash
 }
 
 /// Conflict 33: in any open order z, b among them, c holds x, with y of what c would get in x's SME row. Told is the

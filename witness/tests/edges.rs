@@ -63,6 +63,26 @@ fn hands_in_orders_0_and_63() {
     }
 }
 
+/// M-105 with the greatest numbers: the mask has task 63 alone, then all tasks but 0, and on an unsound book all 64.
+#[test]
+fn clashes_up_to_task_63() {
+    let mut words = defined(64, 64, 64);
+    (1..64).for_each(|task| accept(&mut words, &[(4, 0, task, 0)]));
+    accept(&mut words, &[(8, 0, 5, 0), (8, 63, 62, 0), (9, 62, 63, 0), (10, 63, 63, 0)]);
+    let told = |words: &mut [u64], clash| {
+        assert_eq!(ask(words, 8, 0, 63, 0), (31, 63, clash, 0));
+        assert_eq!(ask(words, 9, 5, 63, 0), (31, 63, clash, 0));
+        assert_eq!(ask(words, 10, 5, 63, 0), (32, 63, clash, 0));
+    };
+    told(&mut words, 1 << 63);
+    (1..63).for_each(|task| accept(&mut words, &[(8, task, 62, 0)]));
+    assert_eq!(audit(&words), (0, 0, 0));
+    told(&mut words, MAX - 1);
+    // Role 62 has task 0 too, which is SME to itself.
+    (words[4], words[324 + 62]) = (MAX, MAX);
+    told(&mut words, MAX);
+}
+
 #[test]
 fn other_lengths_are_refused() {
     for length in [0, 1, 3, 580, 4675, 4677, 4700] {

@@ -146,7 +146,7 @@ fn every_allowed_number_occurs() {
 #[test]
 fn pairs_are_taken_back_in_every_way() {
     let mut times: BTreeMap<_, u64> = BTreeMap::new();
-    walk(text_of_cases(9, 15_000), |words, kind, a, b, c| {
+    walk(text_of_cases(9, 16_000), |words, kind, a, b, c| {
         let fits = !matches!(refusal(words, kind, a, b, c), Some((1..=4, ..)));
         if (18..=21).contains(&kind) && fits {
             let (book, a, b) = (Book::read(words), a as usize, b as usize);
@@ -337,6 +337,137 @@ fn rule_9_is_broken_over_two_orders() {
     assert!(alone >= 15 && with_rule_10 >= 3, "{alone} times over two orders alone, {with_rule_10} with rule 10 too");
     assert!(with_one_order >= 5, "{with_one_order} times an SME pair in one order");
     assert!(dme_over_two >= 20, "{dme_over_two} times DME over two orders, which is no breach");
+}
+
+/// The members of a mask.
+fn members(mask: u64) -> impl Iterator<Item = u64> {
+    (0..64).filter(move |i| (mask >> i) & 1 == 1)
+}
+
+/// What the rows of these numbers name together, in the table that begins at the given word.
+fn named_by(words: &[u64], table: u64, numbers: u64) -> u64 {
+    members(numbers).fold(0, |named, i| named | words[(table + i) as usize])
+}
+
+/// Those of the tasks that have one of the others in their row of the table.
+fn excluding(words: &[u64], table: u64, tasks: u64, others: u64) -> u64 {
+    members(tasks).filter(|&u| named_by(words, table, 1 << u) & others != 0).fold(0, |found, u| found | 1 << u)
+}
+
+const JUNIORS: u64 = 260;
+const TASKS_OF_ROLE: u64 = 324;
+const ROLES_OF_SUBJECT: u64 = 388;
+
+/// These roles and all that they reach, read off the words.
+fn with_juniors(words: &[u64], roles: u64) -> u64 {
+    match roles | named_by(words, JUNIORS, roles) {
+        more if more == roles => roles,
+        more => with_juniors(words, more),
+    }
+}
+
+/// What a request of kinds 8 to 10 would bring.
+fn gained_by(words: &[u64], kind: u64, a: u64) -> u64 {
+    match kind {
+        8 => 1 << a,
+        _ => named_by(words, TASKS_OF_ROLE, with_juniors(words, 1 << a)),
+    }
+}
+
+/// A role, where 31 is asked, or a subject, where 32 is: whether it would gain, its tasks without those of juniors, all
+/// its tasks, and those of them that are SME to one gained.
+struct Owner {
+    gains: bool,
+    direct: u64,
+    owned: u64,
+    clash: u64,
+}
+
+/// All 64 of them, in their order.
+fn owners(words: &[u64], number: u64, [kind, a, b]: [u64; 3]) -> Vec<Owner> {
+    let owner = |x: u64| {
+        let first = if number == 31 { 1 << x } else { named_by(words, ROLES_OF_SUBJECT, 1 << x) };
+        let roles = with_juniors(words, first);
+        let gains = if kind == 10 { x == b } else { members(roles).any(|r| r == b) };
+        let (direct, owned) = (named_by(words, TASKS_OF_ROLE, first), named_by(words, TASKS_OF_ROLE, roles));
+        Owner { gains, direct, owned, clash: excluding(words, SME, owned, gained_by(words, kind, a)) }
+    };
+    (0..64).map(owner).collect()
+}
+
+/// M-105: where none of 1 to 11, 29 and 30 applies, 31 names the lowest role that would gain and clashes, with its whole
+/// clash. Where there is none 32 does so with the subjects, and where there is none either the request is accepted.
+#[test]
+fn every_31_and_32_has_the_whole_clash() {
+    walk(text_of_cases(16, 10_000), |words, kind, a, b, c| {
+        let answer = request(&mut words.to_vec(), kind, a, b, c);
+        let is_judged = (8..=10).contains(&kind) && refusal(words, kind, a, b, c).is_none();
+        if is_judged && !matches!(answer.0, 29 | 30) {
+            let first_of = |number: u64| {
+                let owners = owners(words, number, [kind, a, b]);
+                let x = owners.iter().position(|owner| owner.gains && owner.clash != 0);
+                x.map(|x| (number, x as u64, owners[x].clash, 0))
+            };
+            let told = if kind == 10 { first_of(32) } else { first_of(31).or_else(|| first_of(32)) };
+            assert_eq!(answer, told.unwrap_or((0, 0, 0, 0)), "kind {kind} with {a} and {b}");
+        }
+    });
+}
+
+/// What would tell a wrong reading of M-105 from the right one is among the cases, many times over for each kind and
+/// number.
+#[test]
+fn clashes_are_met_in_every_way() {
+    let mut times: BTreeMap<_, u64> = BTreeMap::new();
+    walk(text_of_cases(17, 16_000), |words, kind, a, b, c| {
+        if let (number @ (31 | 32), x, y, _) = request(&mut words.to_vec(), kind, a, b, c) {
+            let owners = owners(words, number, [kind, a, b]);
+            let mut ways = ways_of_clash(words, gained_by(words, kind, a), &owners[x as usize]);
+            ways.extend(ways_of_owners(kind, &owners, x as usize));
+            assert_eq!(owners[x as usize].clash, y);
+            ways.into_iter().for_each(|(way, met)| *times.entry((kind, number, way)).or_default() += u64::from(met));
+        }
+    });
+    // Kinds 8 and 9 have both numbers. Kind 10 has 32 alone, and one owner who gains.
+    assert!(times.len() == 5 * (16 + 2) + 4 * 2 && times.values().all(|&times| times >= 8), "{times:#?}");
+}
+
+fn ways_of_clash(words: &[u64], gained: u64, owner: &Owner) -> Vec<(&'static str, bool)> {
+    let (owned, clash, tasks) = (owner.owned, owner.clash, owner.clash.count_ones());
+    let is_sound = audit(words).0 == 0;
+    let in_their_rows = named_by(words, SME, gained);
+    vec![
+        ("one task", tasks == 1),
+        ("several tasks", tasks > 1),
+        ("nine tasks and more", tasks >= 9),
+        ("several tasks, on a sound book", tasks > 1 && is_sound),
+        ("nine tasks and more, on a sound book", tasks >= 9 && is_sound),
+        ("task 63", clash >> 63 == 1),
+        ("tasks of juniors and others", clash & owner.direct != 0 && clash & !owner.direct != 0),
+        ("others that are owned, SME to what is not gained", excluding(words, SME, owned, !gained) & !clash != 0),
+        ("others that are owned, DME to what is gained", excluding(words, DME, owned, gained) & !clash != 0),
+        ("others that are owned, in the rows of what is gained", owned & in_their_rows & !clash != 0),
+        ("tasks in no row of what is gained", clash & !in_their_rows != 0),
+        ("others that are not owned, SME to what is gained", excluding(words, SME, !owned, gained) != 0),
+        ("others that are gained and not owned, SME to it", excluding(words, SME, gained & !owned, gained) != 0),
+        ("tasks that are gained", clash & gained != 0),
+        ("others that are gained and owned", owned & gained & !clash != 0),
+        ("tasks SME to nothing new", excluding(words, SME, owned, gained & !owned) != clash),
+    ]
+}
+
+fn ways_of_owners(kind: u64, owners: &[Owner], x: usize) -> Vec<(&'static str, bool)> {
+    let clash = owners[x].clash;
+    let other = |gains: bool| move |owner: &Owner| owner.gains == gains && owner.clash != 0 && owner.clash != clash;
+    let mut ways = vec![
+        ("a lower one that gains nothing, with another clash", owners[..x].iter().any(other(false))),
+        ("a higher one that gains nothing, with another clash", owners[x..].iter().any(other(false))),
+    ];
+    if kind != 10 {
+        ways.push(("a lower one that gains, without a clash", owners[..x].iter().any(|owner| owner.gains)));
+        ways.push(("a higher one that gains, with another clash", owners[x..].iter().any(other(true))));
+    }
+    ways
 }
 
 /// A book as it is laid in a stream, and the requests that are then asked of it.

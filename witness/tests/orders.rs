@@ -259,9 +259,9 @@ fn where_one_is_refused_the_first_one_wins() {
     accept(&mut words, &[(4, 0, 1, 0)]);
     assert_eq!(audit(&words), SOUND);
     let (answers, one) = played(&words, &[(10, 0, 0, 0), (10, 1, 0, 0)]);
-    assert_eq!((answers, one[388]), (vec![(0, 0, 0, 0), (32, 0, 0, 0)], 0b01));
+    assert_eq!((answers, one[388]), (vec![(0, 0, 0, 0), (32, 0, 0b01, 0)], 0b01));
     let (answers, other) = played(&words, &[(10, 1, 0, 0), (10, 0, 0, 0)]);
-    assert_eq!((answers, other[388]), (vec![(0, 0, 0, 0), (32, 0, 1, 0)], 0b10));
+    assert_eq!((answers, other[388]), (vec![(0, 0, 0, 0), (32, 0, 0b10, 0)], 0b10));
 }
 
 /// A control: with kind 11 in the list all is accepted in both orders, and the last one wins.
@@ -305,7 +305,7 @@ fn on_an_unsound_book_the_order_matters() {
     let (answers, one) = played(&words, &[(10, 1, 0, 0), (10, 0, 0, 0)]);
     assert_eq!((answers, one[388]), (vec![(0, 0, 0, 0), (0, 0, 0, 0)], 0b11));
     let (answers, other) = played(&words, &[(10, 0, 0, 0), (10, 1, 0, 0)]);
-    assert_eq!((answers, other[388]), (vec![(0, 0, 0, 0), (32, 0, 0, 0)], 0b01));
+    assert_eq!((answers, other[388]), (vec![(0, 0, 0, 0), (32, 0, 0b01, 0)], 0b01));
 }
 
 /// A control: on a book that fails the audit a pair may have one bit already. It is added from its other end, and taken

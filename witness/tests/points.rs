@@ -1,5 +1,5 @@
-//! "Numbers to check by": P1 to P14, word for word, with the z of M-104, and what becomes of some of them when a pair is
-//! taken back, nothing is activated, or there are several orders.
+//! "Numbers to check by": P1 to P14, word for word, with the z of M-104 and the masks of M-105, and what becomes of some
+//! of them when a pair is taken back, nothing is activated, there are several orders, or more tasks exclude each other.
 
 mod common;
 
@@ -34,14 +34,26 @@ fn p1_to_p4() {
 #[test]
 fn p5_to_p7() {
     assert_eq!(ask(&mut book_b(), 7, 3, 4, 0), (28, 2, 4, 0));
-    assert_eq!(ask(&mut book_b(), 10, 1, 0, 0), (32, 0, 0, 0));
-    assert_eq!(ask(&mut book_b(), 8, 1, 0, 0), (31, 0, 0, 0));
+    assert_eq!(ask(&mut book_b(), 10, 1, 0, 0), (32, 0, 1, 0));
+    assert_eq!(ask(&mut book_b(), 8, 1, 0, 0), (31, 0, 1, 0));
 }
 
 #[test]
 fn p8_and_p9() {
     assert_eq!(ask(&mut book_b(), 9, 3, 2, 0), (30, 0, 0, 0));
-    assert_eq!(ask(&mut book_b(), 9, 0, 1, 0), (31, 1, 1, 0));
+    assert_eq!(ask(&mut book_b(), 9, 0, 1, 0), (31, 1, 2, 0));
+}
+
+/// M-105: P6, P7 and P9 with task 1 SME to 2 and 4 as well, both of which role 3 owns, one of them through role 2.
+#[test]
+fn p6_p7_and_p9_with_several_tasks() {
+    let mut words = book_b();
+    accept(&mut words, &[(4, 1, 2, 0), (4, 4, 1, 0)]);
+    assert_eq!(ask(&mut words, 10, 1, 1, 0), (32, 1, 0b10100, 0));
+    assert_eq!(ask(&mut words, 8, 1, 3, 0), (31, 3, 0b10100, 0));
+    assert_eq!(ask(&mut words, 8, 1, 2, 0), (31, 2, 0b00100, 0));
+    assert_eq!(ask(&mut words, 9, 1, 3, 0), (31, 3, 0b10100, 0));
+    assert_eq!(ask(&mut words, 9, 3, 1, 0), (31, 1, 0b00010, 0));
 }
 
 #[test]

@@ -262,7 +262,7 @@ fn gaining_has_a_direction() {
     assert_eq!(asked(&book, 8, 1, 0, 0), (0, 0, 0, 0));
     book.sme[1].take(0);
     book.sme[0].put(1);
-    assert_eq!(asked(&book, 8, 1, 0, 0), (31, 0, 0, 0));
+    assert_eq!(asked(&book, 8, 1, 0, 0), (31, 0, 0b1, 0));
 }
 
 /// 31: on a cycle b may be its own senior, and a gained task may be one already owned.
@@ -276,11 +276,11 @@ fn gaining_on_an_unsound_book() {
     book.juniors[0].put(2);
     // Role 3 owns 1 and 2 through the cycle; so does role 0 above it. Role 1 would bring task 1 again.
     book.tasks_of_role[1].put(1);
-    assert_eq!(asked(&book, 9, 1, 3, 0), (31, 0, 2, 0));
+    assert_eq!(asked(&book, 9, 1, 3, 0), (31, 0, 0b100, 0));
     assert_eq!(asked(&book, 9, 3, 1, 0), (0, 0, 0, 0));
     // A task SME to itself is owned and gained at once.
     book.sme[1].put(1);
-    assert_eq!(asked(&book, 9, 3, 1, 0), (31, 1, 1, 0));
+    assert_eq!(asked(&book, 9, 3, 1, 0), (31, 1, 0b10, 0));
     assert_eq!(asked(&book, 9, 2, 3, 0), (5, 0, 0, 0));
 }
 
@@ -290,10 +290,148 @@ fn which_subjects_gain() {
     let mut words = defined(2, 4, 3);
     accept(&mut words, &[(4, 0, 1, 0), (8, 0, 0, 0), (9, 1, 2, 0), (8, 1, 3, 0)]);
     accept(&mut words, &[(10, 0, 2, 0), (10, 2, 2, 0), (10, 0, 1, 0)]);
-    assert_eq!(ask(&mut words, 8, 1, 1, 0), (32, 2, 0, 0));
-    assert_eq!(ask(&mut words, 9, 3, 1, 0), (32, 2, 0, 0));
-    assert_eq!(ask(&mut words, 10, 3, 1, 0), (32, 1, 0, 0));
+    assert_eq!(ask(&mut words, 8, 1, 1, 0), (32, 2, 0b1, 0));
+    assert_eq!(ask(&mut words, 9, 3, 1, 0), (32, 2, 0b1, 0));
+    assert_eq!(ask(&mut words, 10, 3, 1, 0), (32, 1, 0b1, 0));
     accept(&mut words, &[(10, 3, 0, 0)]);
+}
+
+/// Ten tasks, six roles and four subjects. Role 0 brings tasks 7 and 8, and role 1 is the one to get them. These tasks
+/// are SME to those, in both rows: 1 and 3 to 7, 3 and 4 to 8; and 6 is SME to 9, which nobody gains.
+fn clashing() -> Book {
+    let mut book = plain(10, 6, 4);
+    book.tasks_of_role[0] = Set::of(&[7, 8]);
+    for (u, v) in [(1, 7), (3, 7), (3, 8), (4, 8), (6, 9)] {
+        book.sme[u].put(v);
+        book.sme[v].put(u);
+    }
+    book
+}
+
+/// M-105: all tasks that x owns and that are SME to one it would gain, and no others. By kind 8 that is task a alone, by
+/// kinds 9 and 10 all tasks of role a.
+#[test]
+fn the_whole_clash_is_told() {
+    let mut book = clashing();
+    book.tasks_of_role[1] = Set::of(&[0, 1, 3, 4, 6]);
+    book.roles_of_subject[2].put(1);
+    assert_eq!(asked(&book, 8, 7, 1, 0), (31, 1, 0b01010, 0));
+    assert_eq!(asked(&book, 8, 8, 1, 0), (31, 1, 0b11000, 0));
+    assert_eq!(asked(&book, 9, 0, 1, 0), (31, 1, 0b11010, 0));
+    assert_eq!(asked(&book, 10, 0, 2, 0), (32, 2, 0b11010, 0));
+    // The same tasks in another role of the subject, so that it has a clash and no role has one.
+    book.tasks_of_role.swap(1, 2);
+    book.roles_of_subject[2].put(2);
+    assert_eq!(asked(&book, 8, 7, 1, 0), (32, 2, 0b01010, 0));
+    assert_eq!(asked(&book, 8, 8, 1, 0), (32, 2, 0b11000, 0));
+    assert_eq!(asked(&book, 9, 0, 1, 0), (32, 2, 0b11010, 0));
+    assert_eq!(asked(&book, 10, 0, 2, 0), (32, 2, 0b11010, 0));
+    assert_eq!(audit(&book.words()), (0, 0, 0));
+}
+
+/// M-105: what x owns through juniors is in the mask, from wherever it comes: of a role, and of all roles of a subject.
+#[test]
+fn the_clash_of_what_is_owned_through_juniors() {
+    let mut book = clashing();
+    book.juniors[1] = Set::of(&[2, 3]);
+    book.juniors[3].put(4);
+    book.tasks_of_role[2].put(1);
+    book.tasks_of_role[4] = Set::of(&[4, 5]);
+    book.roles_of_subject[3] = Set::of(&[1, 5]);
+    assert_eq!(asked(&book, 9, 0, 1, 0), (31, 1, 0b10010, 0));
+    assert_eq!(asked(&book, 8, 7, 1, 0), (31, 1, 0b00010, 0));
+    book.tasks_of_role[5].put(3);
+    assert_eq!(asked(&book, 9, 0, 1, 0), (31, 1, 0b10010, 0));
+    assert_eq!(asked(&book, 10, 0, 3, 0), (32, 3, 0b11010, 0));
+}
+
+/// M-105: the mask is of the lowest role alone that has a clash, though another one among b and its seniors clashes with
+/// other tasks, or with more. Lower ones without a clash, and those that gain nothing, are not named.
+#[test]
+fn the_clash_of_the_lowest_role_alone() {
+    let mut book = clashing();
+    for (senior, tasks) in [(5, &[1][..]), (4, &[3, 4]), (3, &[0, 4]), (2, &[6])] {
+        book.juniors[senior].put(1);
+        book.tasks_of_role[senior] = Set::of(tasks);
+    }
+    assert_eq!(asked(&book, 9, 0, 1, 0), (31, 3, 0b10000, 0));
+    assert_eq!(asked(&book, 8, 7, 1, 0), (31, 4, 0b01000, 0));
+    assert_eq!(asked(&book, 8, 8, 1, 0), (31, 3, 0b10000, 0));
+    book.juniors[3].take(1);
+    assert_eq!(asked(&book, 9, 0, 1, 0), (31, 4, 0b11000, 0));
+    assert_eq!(asked(&book, 9, 0, 5, 0), (31, 5, 0b00010, 0));
+}
+
+/// M-105: likewise of the lowest subject that owns role b, and in kind 10 of subject b, whatever others own. The clash of
+/// a role is told before that of any subject.
+#[test]
+fn the_clash_of_the_lowest_subject_alone() {
+    let mut book = clashing();
+    for (role, tasks) in [(2, &[1][..]), (3, &[3, 6]), (4, &[4])] {
+        book.tasks_of_role[role] = Set::of(tasks);
+    }
+    for (subject, roles) in [(0, &[1][..]), (1, &[2]), (2, &[1, 3]), (3, &[1, 2, 4])] {
+        book.roles_of_subject[subject] = Set::of(roles);
+    }
+    assert_eq!(asked(&book, 9, 0, 1, 0), (32, 2, 0b01000, 0));
+    assert_eq!(asked(&book, 8, 7, 1, 0), (32, 2, 0b01000, 0));
+    for (subject, clash) in [(1, 0b00010), (2, 0b01000), (3, 0b10010)] {
+        assert_eq!(asked(&book, 10, 0, subject, 0), (32, subject, clash, 0));
+    }
+    assert_eq!(asked(&book, 10, 0, 0, 0), (0, 0, 0, 0));
+    book.juniors[4].put(1);
+    assert_eq!(asked(&book, 9, 0, 1, 0), (31, 4, 0b10000, 0));
+}
+
+/// M-105: the gained task stands in the row of the owned one, task by task. The row of the gained one says nothing: with
+/// it alone a task is not in the mask, and without it one is.
+#[test]
+fn every_task_of_a_clash_has_a_direction() {
+    let mut book = clashing();
+    book.tasks_of_role[1] = Set::of(&[1, 2, 3, 4]);
+    book.roles_of_subject[2].put(1);
+    book.sme[3] = Set::empty();
+    book.sme[7].take(1);
+    book.sme[8].put(2);
+    assert_eq!(asked(&book, 8, 7, 1, 0), (31, 1, 0b00010, 0));
+    assert_eq!(asked(&book, 9, 0, 1, 0), (31, 1, 0b10010, 0));
+    assert_eq!(asked(&book, 10, 0, 2, 0), (32, 2, 0b10010, 0));
+    book.tasks_of_role[1] = Set::of(&[2, 3]);
+    assert_eq!(asked(&book, 9, 0, 1, 0), (0, 0, 0, 0));
+}
+
+/// M-105: a gained task that is not owned before the change is in no mask, though it is SME to one gained with it.
+#[test]
+fn gained_tasks_are_not_in_the_clash() {
+    let mut book = clashing();
+    book.sme[7].put(8);
+    book.sme[8].put(8);
+    assert_eq!(asked(&book, 9, 0, 1, 0), (0, 0, 0, 0));
+    assert_eq!(asked(&book, 10, 0, 2, 0), (0, 0, 0, 0));
+    assert_eq!(asked(&book, 8, 8, 1, 0), (0, 0, 0, 0));
+    book.tasks_of_role[1].put(4);
+    book.roles_of_subject[2].put(1);
+    assert_eq!(asked(&book, 9, 0, 1, 0), (31, 1, 0b10000, 0));
+    assert_eq!(asked(&book, 10, 0, 2, 0), (32, 2, 0b10000, 0));
+    assert_eq!(asked(&book, 8, 8, 1, 0), (31, 1, 0b10000, 0));
+}
+
+/// M-105: a task that is owned and gained at once is in the mask where its own row has a gained one, and only there; and
+/// what is SME to it is in the mask, though it gains nothing new by it. Only an unsound book shows it.
+#[test]
+fn what_is_owned_and_gained_at_once() {
+    let mut book = clashing();
+    book.juniors[1].put(2);
+    book.tasks_of_role[2] = Set::of(&[1, 7]);
+    book.roles_of_subject[2].put(1);
+    assert_eq!(asked(&book, 8, 7, 1, 0), (31, 1, 0b0000_0010, 0));
+    assert_eq!(asked(&book, 9, 0, 1, 0), (31, 1, 0b0000_0010, 0));
+    book.sme[7].put(8);
+    assert_eq!(asked(&book, 8, 7, 1, 0), (31, 1, 0b0000_0010, 0));
+    assert_eq!(asked(&book, 9, 0, 1, 0), (31, 1, 0b1000_0010, 0));
+    assert_eq!(asked(&book, 10, 0, 2, 0), (32, 2, 0b1000_0010, 0));
+    book.sme[7].put(7);
+    assert_eq!(asked(&book, 8, 7, 1, 0), (31, 1, 0b1000_0010, 0));
 }
 
 /// 33 and 34: x may lie in a's own group and may equal y; an SME partner comes before any DME partner.

@@ -30,10 +30,10 @@ fn the_role_spreads_along_both_bindings() {
 fn seniors_are_looked_at() {
     let mut words = defined(2, 3, 0);
     accept(&mut words, &[(4, 0, 1, 0), (9, 0, 1, 0), (9, 1, 2, 0), (8, 0, 2, 0)]);
-    assert_eq!(ask(&mut words, 8, 1, 0, 0), (31, 2, 0, 0));
+    assert_eq!(ask(&mut words, 8, 1, 0, 0), (31, 2, 1, 0));
     let mut words = defined(2, 4, 0);
     accept(&mut words, &[(4, 0, 1, 0), (9, 0, 1, 0), (9, 1, 2, 0), (8, 0, 2, 0), (8, 1, 3, 0)]);
-    assert_eq!(ask(&mut words, 9, 3, 0, 0), (31, 2, 0, 0));
+    assert_eq!(ask(&mut words, 9, 3, 0, 0), (31, 2, 1, 0));
 }
 
 /// P14: the assignments move while the order runs, and what a subject has done stays done.

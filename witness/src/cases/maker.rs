@@ -4,6 +4,7 @@ use super::asks::{extreme, likely, spoiled, strange_kind, Ask, Floor};
 use super::books::{full, longest, small};
 use super::broken::{break_rule, nearly_break_rule_9};
 use super::chance::Chance;
+use super::clashes::{clash_of_roles, clash_of_subjects};
 use super::crowds::{crowded_gain, crowded_job, crowded_pair, new_hand};
 use super::damage::{damage, WAYS};
 use super::foremen::{small_cell, taking_back, two_orders};
@@ -58,6 +59,8 @@ impl Maker {
         AIMS.iter().for_each(|&(kind, number)| self.aimed(kind, number));
         (0..5).for_each(|_| self.crowded(crowded_pair));
         (0..2).for_each(|_| self.crowded(crowded_gain));
+        (0..3).for_each(|_| self.crowded(clash_of_roles));
+        (0..3).for_each(|_| self.crowded(clash_of_subjects));
         (0..2).for_each(|_| self.crowded(crowded_job));
         self.crowded(new_hand);
         self.crowded(closed_one_by_one);

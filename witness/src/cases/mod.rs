@@ -1,5 +1,5 @@
-//! Cases to compare by: runs from the blank book, hand-made books, aimed situations, one list in two orders, one pair of
-//! hands in several orders, damage, extremes.
+//! Cases to compare by: runs from the blank book, hand-made books, aimed situations, owners with several tasks that
+//! clash, one list in two orders, one pair of hands in several orders, damage, extremes.
 
 use std::io::{Result, Write};
 
@@ -7,6 +7,7 @@ mod asks;
 mod books;
 mod broken;
 mod chance;
+mod clashes;
 mod crowds;
 mod damage;
 mod foremen;

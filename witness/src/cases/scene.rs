@@ -48,6 +48,15 @@ impl<'a> Scene<'a> {
         t
     }
 
+    /// Task 63 where it is still free, else a new task.
+    pub fn highest_task(&mut self) -> usize {
+        if let Some(place) = self.free_tasks.iter().position(|&t| t == 63) {
+            let last = self.free_tasks.len() - 1;
+            self.free_tasks.swap(place, last);
+        }
+        self.task()
+    }
+
     pub fn role(&mut self) -> usize {
         let r = self.free_roles.pop().unwrap_or_else(|| self.chance.below(64));
         self.book.roles.put(r);
