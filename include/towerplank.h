@@ -59,7 +59,7 @@
 #include <stdint.h>
 
 /* The version of the book and of this library; CHANGELOG.md says when which number moves. */
-#define TOWERPLANK_VERSION_MAJOR 3
+#define TOWERPLANK_VERSION_MAJOR 4
 #define TOWERPLANK_VERSION_MINOR 0
 #define TOWERPLANK_VERSION_PATCH 0
 
@@ -134,8 +134,8 @@
     ROW(28, DME_BETWEEN, "this would put task x and task y into one hand, which exclude each other within an order (DME)") \
     ROW(29, SELF_INHERITANCE, "a role cannot be its own junior") \
     ROW(30, CYCLE, "the roles would run in a circle") \
-    ROW(31, TASK_ASSIGNMENT, "role x owns task y, which excludes a task that it would gain (SME)") \
-    ROW(32, ROLE_ASSIGNMENT, "person x owns task y, which excludes a task that they would gain (SME)") \
+    ROW(31, TASK_ASSIGNMENT, "role x owns the tasks of mask y, each of which excludes a task that it would gain (SME)") \
+    ROW(32, ROLE_ASSIGNMENT, "person x owns the tasks of mask y, each of which excludes a task that they would gain (SME)") \
     ROW(33, HOLDS_SME, "the person already holds task x in order z, which excludes task y in every open order (SME)") \
     ROW(34, HOLDS_DME, "the person already holds task x in order z, which excludes task y within an order (DME)")
 
@@ -180,7 +180,8 @@ extern "C" {
 /*
  * One request. `kind` is one of enum towerplank_kind; a, b and c are its numbers, and those that a kind doesn't use are ignored.
  * answer[0] is the number (0: accepted, and the book is changed), answer[1] is x, answer[2] is y and answer[3] is z, each 0 where
- * nothing is said; z is said by HOLDS_SME and HOLDS_DME alone, and may be order 0 there. All four are written at every call.
+ * nothing is said; z is said by HOLDS_SME and HOLDS_DME alone, and may be order 0 there. By TASK_ASSIGNMENT and ROLE_ASSIGNMENT y is a mask:
+ * bit t of it is 1 for each task t that stands in the way, and one at least is. All four are written at every call.
  */
 void towerplank_request(uint64_t *book, size_t words, uint64_t kind, uint64_t a, uint64_t b, uint64_t c, uint64_t answer[4]);
 

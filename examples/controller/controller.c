@@ -23,6 +23,17 @@ static const uint64_t beside = 0x5ca1ab1e;
 /* The mask of one task. The one that is shifted has 64 bits: an int has too few for tasks above 30. */
 static uint64_t mask_of(uint64_t task) { return UINT64_C(1) << task; }
 
+/* The tasks of a mask, and how many they are. */
+static void list_tasks(uint64_t mask)
+{
+    int count = 0;
+    for (uint64_t task = 0; task < 64; task++) count += (mask & mask_of(task)) != 0;
+    printf("%d in the way:", count);
+    for (uint64_t task = 0; task < 64; task++)
+        if (mask & mask_of(task)) printf(" task %" PRIu64, task);
+    printf("\n");
+}
+
 /* Puts a request, prints the answer, and returns whether it was accepted. */
 static int ask(const char *what, uint64_t kind, uint64_t a, uint64_t b, uint64_t c)
 {
@@ -30,6 +41,8 @@ static int ask(const char *what, uint64_t kind, uint64_t a, uint64_t b, uint64_t
     towerplank_request(book, TOWERPLANK_WORDS, kind, a, b, c, answer);
     printf("%s: (%" PRIu64 ", %" PRIu64 ", %" PRIu64 ", %" PRIu64 ") ", what, answer[0], answer[1], answer[2], answer[3]);
     printf("%s\n", towerplank_answer_text(answer[0]));
+    /* All tasks that stand in the way are told at once. */
+    if (answer[0] == TOWERPLANK_TASK_ASSIGNMENT || answer[0] == TOWERPLANK_ROLE_ASSIGNMENT) list_tasks(answer[2]);
     /* The order that stands in the way may be another than the one that was asked for. */
     if (answer[0] == TOWERPLANK_HOLDS_SME || answer[0] == TOWERPLANK_HOLDS_DME) printf("order %" PRIu64 " stands in the way\n", answer[3]);
     return answer[0] == TOWERPLANK_ACCEPTED;
@@ -49,6 +62,8 @@ static const struct {
     uint64_t kind, a, b;
 } list[] = {
     {"nobody owns both waking and signing", TOWERPLANK_SME, WAKE, SIGN},
+    {"nobody owns both cutting and signing", TOWERPLANK_SME, CUT, SIGN},
+    {"nobody owns both gauging and signing", TOWERPLANK_SME, GAUGE, SIGN},
     {"who cuts does not gauge in one order", TOWERPLANK_DME, CUT, GAUGE},
     {"the sequencer hand wakes", TOWERPLANK_ASSIGN_TASK, WAKE, SEQUENCER},
     {"the office signs", TOWERPLANK_ASSIGN_TASK, SIGN, OFFICE},
@@ -96,6 +111,7 @@ static void run_an_order(void)
 {
     ask("the sequencer hand as office too", TOWERPLANK_ASSIGN_ROLE, OFFICE, SEQUENCER, 0);
     ask("one role for waking and signing", TOWERPLANK_ASSIGN_TASK, SIGN, SEQUENCER, 0);
+    ask("the bench signs too", TOWERPLANK_ASSIGN_TASK, SIGN, BENCH, 0);
     ask("open order 3", TOWERPLANK_OPEN, MORNING, 0, mask_of(WAKE) | mask_of(SIGN) | mask_of(CUT) | mask_of(GAUGE));
     if (ask("may person 0 wake?", TOWERPLANK_ALLOCATE, WAKE, MORNING, SEQUENCER)) printf("the sequencer is woken\n");
     if (!ask("may person 2 sign?", TOWERPLANK_ALLOCATE, SIGN, MORNING, BENCH)) printf("the list is not signed\n");

@@ -237,7 +237,7 @@ fn welcome(paper: &mut [u8], terminal: bool) {
     if terminal {
         output::bytes(
             paper,
-            b"Towerplank 3.0.0: type requests; help lists them, quit or Ctrl-D ends the shift\n",
+            b"Towerplank 4.0.0: type requests; help lists them, quit or Ctrl-D ends the shift\n",
         );
     }
 }

@@ -6,6 +6,7 @@
 // 25: 8. 26: 8 and 10. 27: 2, 5 and 6, and 3 for a role binding. 28: 4, 6 and 7. 29: 13. 30: 13 and 14. 31: 2, 3 and 8.
 // 32: 2, 3, 8 and 10. 33 and 34: 15 and 16.
 use crate::sentence::Facts;
+use crate::sentence::tell_if;
 use crate::sentence::tell_nth;
 
 // Numbers 20 to 24, of the two tasks themselves; then 22 for a role binding and 23 for a dynamic exclusion.
@@ -55,31 +56,92 @@ fn of_owners_and_groups(paper: &mut [u8], names: &[u8], n: u64, v: Facts) {
     );
 }
 
-// Numbers 29 to 32, of roles and of what is gained; then 31 and 32 where it is the task itself that is assigned.
-fn of_gains(paper: &mut [u8], names: &[u8], n: u64, v: Facts) {
+// Numbers 29 and 30, of roles.
+fn of_roles(paper: &mut [u8], names: &[u8], n: u64, v: Facts) {
     tell_nth(
         paper,
         names,
         b"|conflict: role %ra can't be its own junior; to resolve: name two different roles\
           |conflict: role %rb is already below role %ra, so they would run in a circle; \
-          to resolve: name roles that are not above each other, or take the junior step between them back first (take-junior)\
-          |conflict: role %rx owns task %ty, which excludes a task of role %ra (SME), which it would gain; \
-          to resolve: take task %ty from it, or from the junior it comes from (take-task, take-junior), \
-          assign elsewhere, or take that SME back while no order is open (take-sme), with a DME in its place if need be (dme)\
-          |conflict: person %px owns task %ty, which excludes a task of role %ra (SME), which they would gain; \
-          to resolve: take the role with task %ty from them (take-role), \
-          task %ty from that role, or from the junior it comes from (take-task, take-junior), \
-          choose someone else, or take that SME back while no order is open (take-sme), with a DME in its place if need be (dme)\
-          |conflict: role %rx owns task %ty, which excludes task %ta (SME), which it would gain; \
-          to resolve: take task %ty from it, or from the junior it comes from (take-task, take-junior), \
-          assign elsewhere, or take that SME back while no order is open (take-sme), with a DME in its place if need be (dme)\
-          |conflict: person %px owns task %ty, which excludes task %ta (SME), which they would gain; \
-          to resolve: take the role with task %ty from them (take-role), \
-          task %ty from that role, or from the junior it comes from (take-task, take-junior), \
-          choose someone else, or take that SME back while no order is open (take-sme), with a DME in its place if need be (dme)",
+          to resolve: name roles that are not above each other, or take the junior step between them back first (take-junior)",
         n,
         v,
     );
+}
+
+// Numbers 31 and 32, of what is gained, from here on: n is 1 for a role and 2 for a person. Who owns how many tasks that exclude ..
+fn owns_excluding(paper: &mut [u8], names: &[u8], n: u64, several: bool, v: Facts) {
+    tell_nth(
+        paper,
+        names,
+        b"|conflict: role %rx owns %cy|conflict: person %px owns %cy",
+        n,
+        v,
+    );
+    tell_nth(
+        paper,
+        names,
+        b"| task that excludes | tasks that exclude ",
+        either(several, 2, 1),
+        v,
+    );
+}
+
+// .. what they would gain, the task itself or a task or tasks of role a; and which these tasks are ..
+fn would_gain(paper: &mut [u8], names: &[u8], n: u64, gained: u64, v: Facts) {
+    tell_nth(
+        paper,
+        names,
+        b"|task %ta|a task of role %ra|tasks of role %ra",
+        gained,
+        v,
+    );
+    tell_nth(
+        paper,
+        names,
+        b"|, which it would gain (SME): %my; to resolve|, which they would gain (SME): %my; to resolve",
+        n,
+        v,
+    );
+}
+
+// .. and what resolves it. It is said of one task, and holds for each: the request is accepted when all of them are out of the way, if nobody
+// else has a clash.
+fn ways_out(paper: &mut [u8], names: &[u8], n: u64, gained: u64, v: Facts) {
+    tell_nth(
+        paper,
+        names,
+        b"|: take it from role %rx and from each junior that brings it (take-task, take-junior)\
+          |: take each role that brings it from them (take-role), \
+          or it from these roles and from each junior that brings it (take-task, take-junior)",
+        n,
+        v,
+    );
+    tell_nth(
+        paper,
+        names,
+        b"|, or take its SME with task %ta back|, or take every SME between it and a task of role %ra back",
+        gained,
+        v,
+    );
+    tell_nth(
+        paper,
+        names,
+        b"| while no order is open (take-sme), with a DME in its place if need be (dme); or assign elsewhere\
+          | while no order is open (take-sme), with a DME in its place if need be (dme); or choose someone else",
+        n,
+        v,
+    );
+}
+
+// All of it.
+fn of_clash(paper: &mut [u8], names: &[u8], n: u64, v: Facts) {
+    let several = 1 < sets::count(v.y);
+    let task = v.kind == 8;
+    owns_excluding(paper, names, n, several, v);
+    would_gain(paper, names, n, either(task, 1, either(several, 3, 2)), v);
+    tell_if(paper, names, several, b", for each of these", v);
+    ways_out(paper, names, n, either(task, 1, 2), v);
 }
 
 // Numbers 33 and 34, of what the person holds: by SME in any open order, by DME in the order itself.
@@ -113,10 +175,10 @@ pub fn conflict(paper: &mut [u8], names: &[u8], number: u64, v: Facts) {
         26 => of_owners_and_groups(paper, names, 2, v),
         27 => of_owners_and_groups(paper, names, either(kind == 6, 5, 3), v),
         28 => of_owners_and_groups(paper, names, 4, v),
-        29 => of_gains(paper, names, 1, v),
-        30 => of_gains(paper, names, 2, v),
-        31 => of_gains(paper, names, either(kind == 8, 5, 3), v),
-        32 => of_gains(paper, names, either(kind == 8, 6, 4), v),
+        29 => of_roles(paper, names, 1, v),
+        30 => of_roles(paper, names, 2, v),
+        31 => of_clash(paper, names, 1, v),
+        32 => of_clash(paper, names, 2, v),
         33 => of_hands(paper, names, 1, v),
         _ => of_hands(paper, names, 2, v),
     }

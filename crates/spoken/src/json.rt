@@ -1,5 +1,6 @@
 // Answers as JSON: one object to a line. Text stands in it between opened and closed, where the paper writes each byte so that nothing
 // can break the line.
+ghost use Prim.Native.Nat.{_<_};
 use crate::sentence::Facts;
 use crate::wanted;
 
@@ -17,6 +18,12 @@ fn flag(paper: &mut [u8], before: &[u8], is: bool) {
     } else {
         output::bytes(paper, b"false");
     }
+}
+
+// Whether the request was accepted, and whether it was only tried.
+fn flags(paper: &mut [u8], accepted: bool, tried: bool) {
+    flag(paper, b",\"accepted\":", accepted);
+    flag(paper, b",\"tried\":", tried);
 }
 
 // From here on everything written is inside a string ..
@@ -111,6 +118,47 @@ fn numbers(paper: &mut [u8], answer: u64, v: Facts) {
     number(paper, b",\"z\":", v.z);
 }
 
+// The name of a task, between two "; null where it has none.
+fn name_or_null(paper: &mut [u8], names: &[u8], n: u64) {
+    if labels::length_of(names, labels::TASK, n) == 0 {
+        output::bytes(paper, b"null");
+    } else {
+        output::byte(paper, b'"');
+        called::name(paper, names, labels::TASK, n);
+        output::byte(paper, b'"');
+    }
+}
+
+// A task of the mask, with its name, parted from those before it; nothing where it is none of the mask.
+fn task_if(paper: &mut [u8], names: &[u8], mask: u64, n: u64)
+    requires { ⌜ n < 64 ⌝ }
+{
+    if sets::has(mask, n) {
+        comma(paper, sets::lowest(mask) < n);
+        number(paper, b"{\"task\":", n);
+        output::bytes(paper, b",\"name\":");
+        name_or_null(paper, names, n);
+        output::byte(paper, b'}');
+    }
+}
+
+// The tasks of a mask.
+fn tasks(paper: &mut [u8], names: &[u8], mask: u64) {
+    for n in 0..64u64 {
+        task_if(paper, names, mask, n);
+    }
+}
+
+// How many tasks y names, and which: where it is a mask.
+fn clash(paper: &mut [u8], names: &[u8], answer: u64, mask: u64) {
+    if wanted::is_mask(answer) {
+        number(paper, b",\"count\":", sets::count(mask));
+        output::bytes(paper, b",\"tasks\":[");
+        tasks(paper, names, mask);
+        output::byte(paper, b']');
+    }
+}
+
 // The numbers that an answer and a finding both have.
 pub fn reply(paper: &mut [u8], answer: u64, x: u64, y: u64) {
     number(paper, b",\"number\":", answer);
@@ -131,8 +179,8 @@ pub fn answer(
     number(paper, b",\"kind\":", v.kind);
     word(paper, v.kind);
     numbers(paper, number_of_answer, v);
-    flag(paper, b",\"accepted\":", number_of_answer == 0);
-    flag(paper, b",\"tried\":", tried);
+    clash(paper, names, number_of_answer, v.y);
+    flags(paper, number_of_answer == 0, tried);
     all_names(paper, names, number_of_answer, v);
     opened(paper, b",\"text\":\"");
 }

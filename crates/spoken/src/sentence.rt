@@ -1,6 +1,6 @@
-// Sentences with things in them. A mark is a %, the sort of the thing (t task, r role, p person, o order, m a mask of tasks, n a number
-// that is none of these), and whose it is: the request's kind (k) or its a, b, c, the answer's x, y, z, or the role that person c acts in
-// (e).
+// Sentences with things in them. A mark is a %, the sort of the thing (t task, r role, p person, o order, m the tasks of a mask, c how many
+// they are, n a number that is none of these), and whose it is: the request's kind (k) or its a, b, c, the answer's x, y, z, or the role that
+// person c acts in (e).
 ghost use Prim.Native.Nat.{_<_};
 ghost use lib.ListN.{length};
 use crate::standing;
@@ -40,6 +40,7 @@ fn mark(paper: &mut [u8], names: &[u8], sort: u8, n: u64) {
         b'p' => called::thing(paper, names, labels::PERSON, n),
         b'o' => called::thing(paper, names, labels::ORDER, n),
         b'm' => called::things(paper, names, labels::TASK, n),
+        b'c' => output::number(paper, sets::count(n)),
         _ => output::number(paper, n),
     }
 }

@@ -17,7 +17,7 @@ pub fn x_of(number: u64) -> u64 {
 // .. of its y ..
 pub fn y_of(number: u64) -> u64 {
     match number {
-        27..=28 | 31..=34 => labels::TASK,
+        27..=28 | 33..=34 => labels::TASK,
         _ => NO_SORT,
     }
 }
@@ -28,6 +28,11 @@ pub fn z_of(number: u64) -> u64 {
         33..=34 => labels::ORDER,
         _ => NO_SORT,
     }
+}
+
+// Whether an answer's y is a mask of tasks.
+pub fn is_mask(number: u64) -> bool {
+    (number == 31) | (number == 32)
 }
 
 // The kind that a word names; 0 where it names none.
