@@ -223,6 +223,24 @@ tells_order() {
 }
 holds "33 is told with the order that stands in the way" tells_order
 
+# Who owns tasks that exclude what they would gain is told all of them, with and without a name, task 63 and what a junior brings among them.
+printf '%b' 'name task 0 cut\nname task 9 sign\nname role 2 smith\nname person 63 otto\ndefine-task 0\ndefine-task 7\ndefine-task 9\ndefine-task 63
+define-role 2\ndefine-role 3\ndefine-role 4\ndefine-person 63\nsme 0 9\nsme 7 9\nsme 63 9\nassign-task 0 2\nassign-task 7 2\nassign-task 63 3\njunior 3 2
+assign-task 9 4\nassign-role 2 63\nassign-task 9 2\njunior 4 2\nassign-role 4 63\ntake-junior 3 2\ntake-task 0 2\ntry assign-task 9 2\n' >"$room/clashes"
+tells_all_tasks() {
+    panel <"$room/clashes" | sed -n 's/\(: 3[12] .*; to resolve[^:]*\):.*/\1/p' >"$room/out"
+    printf '%s\n' \
+        '22: 31 2 9223372036854775937 0  conflict: role 2 (smith) owns 3 tasks that exclude task 9 (sign), which it would gain (SME): 0 (cut) 7 63; '\
+'to resolve, for each of these' \
+        '23: 31 2 9223372036854775937 0  conflict: role 2 (smith) owns 3 tasks that exclude tasks of role 4, which it would gain (SME): 0 (cut) 7 63; '\
+'to resolve, for each of these' \
+        '24: 32 63 9223372036854775937 0  conflict: person 63 (otto) owns 3 tasks that exclude tasks of role 4, which they would gain (SME): 0 (cut) 7 63; '\
+'to resolve, for each of these' \
+        '27: 31 2 128 0  tried, the book is as it was: conflict: role 2 (smith) owns 1 task that excludes task 9 (sign), which it would gain (SME): 7; '\
+'to resolve' | cmp - "$room/out"
+}
+holds "31 and 32 are told with the number of tasks that stand in the way, and each of them" tells_all_tasks
+
 lists_every_word() {
     printf 'help\n' | panel >"$room/help" || return 1
     for word in define-task define-role define-subject sme dme rb sb assign-task junior assign-role activate open allocate close \
@@ -307,11 +325,18 @@ sees_a_difference() {
     sed 's/accepted: task 0/accepted: task 1/' "$room/plain" >"$room/changed"
     ! tests/panel/json_agrees "$room/changed" "$room/json" 2>"$room/message" && grep -q '^plain otherwise' "$room/message"
 }
-sees_another_z() {
-    sed 's/"z":0,/"z":1,/' "$room/json" >"$room/changed"
-    ! tests/panel/json_agrees "$room/plain" "$room/changed" 2>"$room/message" && grep -q '^z is 0 where nothing is said' "$room/message"
+sees_in_json() { # MESSAGE COMMAND-OF-SED: with the JSON changed so, that is said
+    sed "$2" "$room/json" >"$room/changed"
+    ! cmp -s "$room/json" "$room/changed" && ! tests/panel/json_agrees "$room/plain" "$room/changed" 2>"$room/message" && grep -q "^$1:" "$room/message"
+}
+sees_in_both() { # MESSAGE COMMAND-OF-SED: with the two changed alike, that is said
+    sed -i "$2" "$room/plain" && sees_in_json "$1" "$2"
 }
 holds "a difference between the two would be seen" sees_a_difference
-holds ".. and a z where nothing is said" sees_another_z
+holds ".. and a z where nothing is said" sees_in_json 'z is 0 where nothing is said' 's/"z":0,/"z":1,/'
+holds "31 and 32 with several tasks as JSON have the same facts" json_agrees "$room/clashes"
+holds ".. and another count would be seen" sees_in_json 'the count of the tasks' 's/"count":3,/"count":2,/'
+holds ".. and a task left out of the list" sees_in_json 'the tasks of y' 's/,{"task":63,"name":null}//'
+holds ".. and one left out of the sentence" sees_in_both 'the sentence of the tasks' 's/ 63; to resolve/; to resolve/'
 holds "on a terminal there are a greeting, prompts and an end by quit and by Ctrl-D, elsewhere none" tests/panel/terminal
 rm -rf "$room"

@@ -11,7 +11,8 @@ use Rattle.sets.specs.Search.{lowest}
 use Rattle.rules.specs.Book.{Book, bookWords, read, firstBad}
 use Rattle.rules.specs.Requests.{Request, Deed, nothing, define, relate, assign, activate, openOrder, allocate, closeOrder, takeBack, unrelate}
 use Rattle.rules.specs.Requests.{rowOf}
-use Rattle.rules.specs.Numbers.{Said, accepted, says, say, numberOf, given, givenLowest, somePair, givenPairIn, hasPair, givenLowestPair}
+use Rattle.rules.specs.Numbers.{Said, accepted, says, say, numberOf, given, givenLowest, hasSome, givenSet}
+use Rattle.rules.specs.Numbers.{somePair, givenPairIn, hasPair, givenLowestPair}
 use Rattle.rules.specs.Numbers.{argumentFault, allocateRefusal, stateRefusal, refusal}
 use Rattle.rules.specs.Numbers.{Conflict, selfConstraint, alreadyDme, alreadySme, oneSubjectGroup, oneRoleGroup, roleOwnsBoth, subjectOwnsBoth}
 use Rattle.rules.specs.Numbers.{smeBetweenGroups, dmeBetweenGroups, selfInheritance, cycle, taskAssignment, roleAssignment, ownRoleAssignment}
@@ -36,6 +37,10 @@ given-numbered false s rest x y = y
 lowest-numbered : (n : ℕ) (f : ℕ → Bool) (rest : Said) → 0 < n → Numbered rest → Numbered (givenLowest n f rest)
 unfolding givenLowest
 lowest-numbered n f rest h y = given-numbered (ltb (lowest f) 64) _ rest h y
+
+set-numbered : (n : ℕ) (f : ℕ → ℕ) (rest : Said) → 0 < n → Numbered rest → Numbered (givenSet n f rest)
+unfolding givenSet
+set-numbered n f rest h y = given-numbered (ltb (lowest (hasSome f)) 64) _ rest h y
 
 pair-numbered : (n : ℕ) (f : ℕ → ℕ → Bool) (z : ℕ) (rest : Said) → 0 < n → Numbered rest → Numbered (givenPairIn n f z rest)
 unfolding givenPairIn
@@ -81,6 +86,9 @@ by-test n f h d a b rest y = given-numbered (f d a b) (say n) rest h y
 
 by-lowest : (n : ℕ) (f : Book → ℕ → ℕ → ℕ → Bool) → 0 < n → Gives (λ d a b. givenLowest n (f d a b))
 by-lowest n f h d a b rest y = lowest-numbered n (f d a b) rest h y
+
+by-set : (n : ℕ) (f : Book → ℕ → ℕ → ℕ → ℕ) → 0 < n → Gives (λ d a b. givenSet n (f d a b))
+by-set n f h d a b rest y = set-numbered n (f d a b) rest h y
 
 by-pair : (n : ℕ) (f : Book → ℕ → ℕ → ℕ → ℕ → Bool) (z : ℕ → ℕ) → 0 < n → Gives (λ d a b. givenPairIn n (f d a b) (z b))
 by-pair n f z h d a b rest y = pair-numbered n (f d a b) (z b) rest h y
@@ -138,15 +146,15 @@ sb-give = (
 
 task-give : AllGive taskConflicts
 unfolding taskConflicts taskAssignment roleAssignment
-task-give = (by-pair 31 _ (λ b. 0) (omega arith), (by-pair 32 _ (λ b. 0) (omega arith), tt))
+task-give = (by-set 31 _ (omega arith), (by-set 32 _ (omega arith), tt))
 
 junior-give : AllGive juniorConflicts
 unfolding juniorConflicts selfInheritance cycle taskAssignment roleAssignment
-junior-give = (by-test 29 _ (omega arith), (by-test 30 _ (omega arith), (by-pair 31 _ (λ b. 0) (omega arith), (by-pair 32 _ (λ b. 0) (omega arith), tt))))
+junior-give = (by-test 29 _ (omega arith), (by-test 30 _ (omega arith), (by-set 31 _ (omega arith), (by-set 32 _ (omega arith), tt))))
 
 role-give : AllGive roleConflicts
 unfolding roleConflicts ownRoleAssignment
-role-give = (by-pair 32 _ (λ b. 0) (omega arith), tt)
+role-give = (by-set 32 _ (omega arith), tt)
 
 held-give : (c : ℕ) → AllGive (heldConflicts c)
 unfolding heldConflicts heldSme heldDme

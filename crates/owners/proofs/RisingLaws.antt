@@ -18,12 +18,11 @@ use Rattle.chains.proofs.ClosureLaws.{close-lt, close-chain, from-close}
 use Rattle.rules.specs.Book.{Book, roles, subjects, tasks, SME, juniors, tasksOf, rolesOf}
 use Rattle.rules.specs.Meaning.{Sized, Formed, OwnedFrom}
 use Rattle.rules.specs.Trade as trade
-use Rattle.rules.specs.Numbers as numbers
-use Rattle.rules.specs.Numbers.{ownsBoth}
+use Rattle.rules.specs.Numbers.{ownsBoth, hasSome, clashing}
 use Rattle.rules.proofs.Exactly.{Exactly, itself, exactly-as, exactly-and, exactly-meet, exactly-only, exactly-picked, exactly-some, exactly-same}
 use Rattle.rules.proofs.TradeLaws.{below-out, below-in, owned-out, owned-in, owned-lt}
 use Rattle.owners.specs.Owners.{startOf, clashesBelow, foundClash}
-use Rattle.owners.specs.Rising.{seniors, above, ownersOf, starters, clashing, startsInBoth}
+use Rattle.owners.specs.Rising.{seniors, above, ownersOf, starters, allClashing, startsInBoth}
 use Rattle.owners.specs.declared.Owner.{Owner}
 use Rattle.owners.specs.declared.Owner.the-variants.{Role, Subject}
 use Rattle.owners.specs.declared.Clash.the-variants.{Nothing}
@@ -128,31 +127,31 @@ module _ (d : Book) (s : Sized d) (f : Formed d) where
 
   -- Clashes with what is gained, among the owners of role b.
   module _ (owner : Owner) (b gain : ℕ) (hb : b < 64) (hg : gain < 2 ^ 64) where
-    clashing-exactly : (t : ℕ) → Exactly (bit (clashing d gain) t) (meet (d .row SME t) gain ≡ true)
+    clashing-exactly : (t : ℕ) → Exactly (bit (allClashing d gain) t) (meet (d .row SME t) gain ≡ true)
     clashing-exactly t =
         exactly-as (λ x. x .1) (λ e. (let o = exactly-meet (d .row SME t) gain (s .rows SME .fits t) hg .means e in (f .sme t (o .0) (o .1) .0, e)))
         (exactly-picked (λ k. meet (d .row SME k) gain) (tasks d) t (s .head .fits 0) (itself (meet (d .row SME t) gain)))
 
-    clashing-lt : clashing d gain < 2 ^ 64
+    clashing-lt : allClashing d gain < 2 ^ 64
     clashing-lt = picked-lt (λ t. meet (d .row SME t) gain) (tasks d)
 
     -- Of what an owner owns those clash that are clashing tasks.
-    owned-clashing : (o : ℕ) → bitAnd (trade.ownedTasks d (startOf d owner o)) (clashing d gain)
-        ≡ numbers.clashing (d .row SME) gain (trade.ownedTasks d (startOf d owner o))
+    owned-clashing : (o : ℕ) → bitAnd (trade.ownedTasks d (startOf d owner o)) (allClashing d gain)
+        ≡ clashing (d .row SME) gain (trade.ownedTasks d (startOf d owner o))
     owned-clashing o =
         let mine = trade.ownedTasks d (startOf d owner o) in
         let small = owned-lt d s (startOf d owner o) in
-        bit-ext 64 _ _ (and-lt 64 mine (clashing d gain) small clashing-lt) (picked-lt (λ t. meet (d .row SME t) gain) mine) (λ t h.
-        bit-and mine (clashing d gain) t
+        bit-ext 64 _ _ (and-lt 64 mine (allClashing d gain) small clashing-lt) (picked-lt (λ t. meet (d .row SME t) gain) mine) (λ t h.
+        bit-and mine (allClashing d gain) t
         ∙ exactly-same (exactly-and (itself (bit mine t)) (clashing-exactly t))
         (exactly-picked (λ t. meet (d .row SME t) gain) mine t small (itself (meet (d .row SME t) gain))))
 
     -- An owner has a clash exactly if it owns role b and one of the clashing tasks ..
     has-clash : (o : ℕ) → o < 64
-        → startsInBoth d owner (above d (2 ^ b)) (ownersOf d (clashing d gain)) o ≡ numbers.hasSome (clashesBelow d owner b gain) o
+        → startsInBoth d owner (above d (2 ^ b)) (ownersOf d (allClashing d gain)) o ≡ hasSome (clashesBelow d owner b gain) o
     has-clash o l =
-        ap (λ (t : Bool). t && bit (starters d owner (ownersOf d (clashing d gain))) o) (owns-role owner b o hb l)
-        ∙ exactly-same (exactly-and (itself own) (owns-one owner (clashing d gain) o clashing-lt l))
+        ap (λ (t : Bool). t && bit (starters d owner (ownersOf d (allClashing d gain))) o) (owns-role owner b o hb l)
+        ∙ exactly-same (exactly-and (itself own) (owns-one owner (allClashing d gain) o clashing-lt l))
         (exactly-as down up (exactly-some (clashesBelow d owner b gain o) (only-lt own _ (picked-lt (λ t. meet (d .row SME t) gain) mine))))
       where
         own : Bool
@@ -165,43 +164,45 @@ module _ (d : Book) (s : Sized d) (f : Formed d) where
         one t = exactly-only own _ t (itself own)
             (exactly-picked (λ t. meet (d .row SME t) gain) mine t (owned-lt d s (startOf d owner o)) (itself (meet (d .row SME t) gain)))
 
-        down : (t : ℕ) × In (clashesBelow d owner b gain o) t → (own ≡ true) × ((t : ℕ) × OwnedFrom d (startOf d owner o) t × In (clashing d gain) t)
+        down : (t : ℕ) × In (clashesBelow d owner b gain o) t → (own ≡ true) × ((t : ℕ) × OwnedFrom d (startOf d owner o) t × In (allClashing d gain) t)
         down x =
             let w = one (x .0) .means (x .1) in
             (w .0, (x .0, owned-out d s (startOf d owner o) (x .0) (w .1 .0), clashing-exactly (x .0) .holds (w .1 .1)))
 
-        up : (own ≡ true) × ((t : ℕ) × OwnedFrom d (startOf d owner o) t × In (clashing d gain) t) → (t : ℕ) × In (clashesBelow d owner b gain o) t
+        up : (own ≡ true) × ((t : ℕ) × OwnedFrom d (startOf d owner o) t × In (allClashing d gain) t) → (t : ℕ) × In (clashesBelow d owner b gain o) t
         up y =
             let t = y .1 .0 in
             (t, one t .holds (y .0, (owned-in d s (startOf d owner o) t (start-lt owner o l) (y .1 .1), clashing-exactly t .means (y .1 .2))))
 
     -- .. so the lowest of those is the lowest with a clash,
-    pub first-owner : lowest (startsInBoth d owner (above d (2 ^ b)) (ownersOf d (clashing d gain))) ≡ lowest (numbers.hasSome (clashesBelow d owner b gain))
+    pub first-owner : lowest (startsInBoth d owner (above d (2 ^ b)) (ownersOf d (allClashing d gain))) ≡ lowest (hasSome (clashesBelow d owner b gain))
     first-owner = lowest-same _ _ has-clash
 
     -- and its clash is all the clashing tasks that it owns.
-    pub whole-clash : (o : ℕ) → o < 64 → startsInBoth d owner (above d (2 ^ b)) (ownersOf d (clashing d gain)) o ≡ true
-        → bitAnd (trade.ownedTasks d (startOf d owner o)) (clashing d gain) ≡ clashesBelow d owner b gain o
+    pub whole-clash : (o : ℕ) → o < 64 → startsInBoth d owner (above d (2 ^ b)) (ownersOf d (allClashing d gain)) o ≡ true
+        → bitAnd (trade.ownedTasks d (startOf d owner o)) (allClashing d gain) ≡ clashesBelow d owner b gain o
     whole-clash o l e =
         let own = sym (owns-role owner b o hb l) ∙ and-out _ _ e .0 in
         owned-clashing o ∙ sym (only-yes _ _ own)
 
     -- Where nobody starts in both, nobody has a clash: where no task clashes, where no role owns one, and where the search found nobody.
-    none : lowest (startsInBoth d owner (above d (2 ^ b)) (ownersOf d (clashing d gain))) ≡ 64 → Nothing ≡ foundClash (clashesBelow d owner b gain)
+    none : lowest (startsInBoth d owner (above d (2 ^ b)) (ownersOf d (allClashing d gain))) ≡ 64 → Nothing ≡ foundClash (clashesBelow d owner b gain)
     none e = none-at (clashesBelow d owner b gain) (sym e ∙ first-owner)
 
-    holds : (o : ℕ) → startsInBoth d owner (above d (2 ^ b)) (ownersOf d (clashing d gain)) o ≡ true → In (starters d owner (ownersOf d (clashing d gain))) o
-    holds o e = and-out (bit (starters d owner (above d (2 ^ b))) o) (bit (starters d owner (ownersOf d (clashing d gain))) o) e .1
+    holds : (o : ℕ) → startsInBoth d owner (above d (2 ^ b)) (ownersOf d (allClashing d gain)) o ≡ true
+        → In (starters d owner (ownersOf d (allClashing d gain))) o
+    holds o e = and-out (bit (starters d owner (above d (2 ^ b))) o) (bit (starters d owner (ownersOf d (allClashing d gain))) o) e .1
 
-    pub no-holders : ownersOf d (clashing d gain) ≡ 0 → Nothing ≡ foundClash (clashesBelow d owner b gain)
+    pub no-holders : ownersOf d (allClashing d gain) ≡ 0 → Nothing ≡ foundClash (clashesBelow d owner b gain)
     no-holders z =
         none (sym (lowest-end 64 _ (λ o l. refute _ (λ e.
-        let x = starters-exactly owner (ownersOf d (clashing d gain)) (owners-lt d s (clashing d gain)) o .means (holds o e) in zero-none (x .0) z (x .2)))))
+        let x = starters-exactly owner (ownersOf d (allClashing d gain)) (owners-lt d s (allClashing d gain)) o .means (holds o e) in
+        zero-none (x .0) z (x .2)))))
 
-    pub no-clashing : clashing d gain ≡ 0 → Nothing ≡ foundClash (clashesBelow d owner b gain)
+    pub no-clashing : allClashing d gain ≡ 0 → Nothing ≡ foundClash (clashesBelow d owner b gain)
     no-clashing z =
         none (sym (lowest-end 64 _ (λ o l. refute _ (λ e.
-        let x = owns-one owner (clashing d gain) o clashing-lt l .means (holds o e) in zero-none (x .0) z (x .2)))))
+        let x = owns-one owner (allClashing d gain) o clashing-lt l .means (holds o e) in zero-none (x .0) z (x .2)))))
 
-    pub no-owner : 64 ≤ lowest (startsInBoth d owner (above d (2 ^ b)) (ownersOf d (clashing d gain))) → Nothing ≡ foundClash (clashesBelow d owner b gain)
-    no-owner h = none (omega (arith, lowest-most 64 0 (startsInBoth d owner (above d (2 ^ b)) (ownersOf d (clashing d gain)))))
+    pub no-owner : 64 ≤ lowest (startsInBoth d owner (above d (2 ^ b)) (ownersOf d (allClashing d gain))) → Nothing ≡ foundClash (clashesBelow d owner b gain)
+    no-owner h = none (omega (arith, lowest-most 64 0 (startsInBoth d owner (above d (2 ^ b)) (ownersOf d (allClashing d gain)))))

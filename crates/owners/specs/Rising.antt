@@ -6,7 +6,7 @@ use Prim.Native.Nat.{ℕ}
 use Rattle.sets.specs.Mask.{bit, within, meet, picked}
 use Rattle.chains.specs.Closure.{close}
 use Rattle.rules.specs.Book.{Book, tasks, roles, subjects, SME, juniors, tasksOf, rolesOf}
-use Rattle.rules.specs.Numbers as numbers
+use Rattle.rules.specs.Numbers.{clashing}
 use Rattle.owners.specs.declared.Owner.{Owner}
 use Rattle.owners.specs.declared.Owner.the-variants.{Role, Subject}
 
@@ -32,8 +32,8 @@ starters d Role m = m
 starters d Subject m = picked (λ s. meet (d .row rolesOf s) m) (subjects d)
 
 -- the defined tasks that are SME to a gained one
-abbrev pub clashing : Book → ℕ → ℕ
-clashing d gain = numbers.clashing (d .row SME) gain (tasks d)
+abbrev pub allClashing : Book → ℕ → ℕ
+allClashing d gain = clashing (d .row SME) gain (tasks d)
 
 -- owner o starts with a role of xs and with one of ys
 abbrev pub startsInBoth : Book → Owner → ℕ → ℕ → ℕ → Bool

@@ -208,11 +208,11 @@ cycle d a b = given (bit (reach d a) b) (say 30)
 abbrev pub clashing : (ℕ → ℕ) → ℕ → ℕ → ℕ
 clashing sme gain owned = picked (λ t. meet (sme t) gain) owned
 
--- those of each owner that is asked
+-- such tasks of owner o, if o is one of those asked
 abbrev pub clashes : Book → Owner → (ℕ → Bool) → ℕ → ℕ → ℕ
 clashes d start asked gain o = only (asked o) (clashing (d .row SME) gain (ownedTasks d (start o)))
 
--- 31: x = lowest role, among b and its seniors, that owns a task SME to one it would gain; y = the mask of all tasks it owns that are
+-- 31: x = lowest role, among b and its seniors, that owns a task SME to one it would gain; y = the mask of all such tasks that it owns
 -- 32: x = lowest subject likewise, in kinds 8 and 9 among those owning role b; y likewise
 -- What is gained: task a in 8 ..
 abbrev pub gainedTask : Book → ℕ → ℕ

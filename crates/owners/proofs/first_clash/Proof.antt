@@ -12,7 +12,7 @@ use Rattle.rules.specs.Trade.{ownedTasks}
 use Rattle.rules.proofs.BookLaws.{read-sized}
 use Rattle.book.specs.Slice.{words, tables}
 use Rattle.owners.specs.Owners.{clashesBelow}
-use Rattle.owners.specs.Rising.{above, ownersOf, clashing, startsInBoth}
+use Rattle.owners.specs.Rising.{above, ownersOf, allClashing, startsInBoth}
 use Rattle.owners.proofs.ClashLaws.{clash-at}
 use Rattle.owners.proofs.RisingLaws.{no-clashing, no-holders, no-owner, first-owner, whole-clash}
 use borrow.Author.Needs.{needs}
@@ -89,7 +89,7 @@ returns-4 c =
     ∙ ap₂ (λ (x y : ℕ). lowest (startsInBoth d (s .owner) x y)) up (m .owners-of .ensures ∙ ap (ownersOf d) some) in
     let o = c .before .before .before .lowest-starter .result in
     let l : o < 64 = omega arith in
-    let starts : ℕ → Bool = startsInBoth d (s .owner) (above d (2 ^ s .b)) (ownersOf d (clashing d (s .gain))) in
+    let starts : ℕ → Bool = startsInBoth d (s .owner) (above d (2 ^ s .b)) (ownersOf d (allClashing d (s .gain))) in
     let holds = ap starts at ∙ lowest-passes 64 0 starts (omega (arith, at)) in
     clash-at (clashesBelow d (s .owner) (s .b) (s .gain)) o _ l
     (at ∙ first-owner d sized (b .pre .0 .1) (s .owner) (s .b) (s .gain) (omega arith) (search needs))
