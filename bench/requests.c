@@ -61,8 +61,9 @@ u64 lowest_y(const u64 answer[4])
 }
 
 /*
- * How far the search went that ended with this answer: by orders, then by x, then by y, or by the lowest task there. An accepted request
- * found nothing; one of kind 13 goes further where its task is SME to another, since all open orders are looked through then.
+ * How far the search went that ended with this answer: by orders, then by x, then by y. Of 31 and 32, which go through all that x owns, the
+ * lowest task only orders the paths. An accepted request found nothing; one of kind 13 goes further where its task is SME to another, since
+ * all open orders are looked through then.
  */
 static u64 found_at(request q, const u64 *book, const u64 answer[4])
 {

@@ -228,16 +228,14 @@ printf '%b' 'name task 0 cut\nname task 9 sign\nname role 2 smith\nname person 6
 define-role 2\ndefine-role 3\ndefine-role 4\ndefine-person 63\nsme 0 9\nsme 7 9\nsme 63 9\nassign-task 0 2\nassign-task 7 2\nassign-task 63 3\njunior 3 2
 assign-task 9 4\nassign-role 2 63\nassign-task 9 2\njunior 4 2\nassign-role 4 63\ntake-junior 3 2\ntake-task 0 2\ntry assign-task 9 2\n' >"$room/clashes"
 tells_all_tasks() {
+    three='3 tasks, each of which excludes' all='(SME): tasks 0 (cut) 7 63; to resolve, for each of these tasks' mask=9223372036854775937
     panel <"$room/clashes" | sed -n 's/\(: 3[12] .*; to resolve[^:]*\):.*/\1/p' >"$room/out"
     printf '%s\n' \
-        '22: 31 2 9223372036854775937 0  conflict: role 2 (smith) owns 3 tasks that exclude task 9 (sign), which it would gain (SME): 0 (cut) 7 63; '\
-'to resolve, for each of these' \
-        '23: 31 2 9223372036854775937 0  conflict: role 2 (smith) owns 3 tasks that exclude tasks of role 4, which it would gain (SME): 0 (cut) 7 63; '\
-'to resolve, for each of these' \
-        '24: 32 63 9223372036854775937 0  conflict: person 63 (otto) owns 3 tasks that exclude tasks of role 4, which they would gain (SME): 0 (cut) 7 63; '\
-'to resolve, for each of these' \
-        '27: 31 2 128 0  tried, the book is as it was: conflict: role 2 (smith) owns 1 task that excludes task 9 (sign), which it would gain (SME): 7; '\
-'to resolve' | cmp - "$room/out"
+        "22: 31 2 $mask 0  conflict: role 2 (smith) owns $three task 9 (sign), which it would gain $all" \
+        "23: 31 2 $mask 0  conflict: role 2 (smith) owns $three a task of role 4, which it would gain $all" \
+        "24: 32 63 $mask 0  conflict: person 63 (otto) owns $three a task of role 4, which they would gain $all" \
+        "27: 31 2 128 0  tried, the book is as it was: conflict: role 2 (smith) owns 1 task that excludes task 9 (sign), which it would gain \
+(SME): task 7; to resolve, for that task" | cmp - "$room/out"
 }
 holds "31 and 32 are told with the number of tasks that stand in the way, and each of them" tells_all_tasks
 

@@ -116,8 +116,8 @@ pub fn told(answer: Answer) -> Reply
         Answer::DmeBetween(x, y) => say_xy(28, x, y),
         Answer::SelfInheritance => say(29),
         Answer::Cycle => say(30),
-        Answer::TaskAssignment(role, task) => say_xy(31, role, task),
-        Answer::RoleAssignment(subject, task) => say_xy(32, subject, task),
+        Answer::TaskAssignment(role, tasks) => say_xy(31, role, tasks),
+        Answer::RoleAssignment(subject, tasks) => say_xy(32, subject, tasks),
         Answer::HoldsSme(x, y, order) => say_xyz(33, x, y, order),
         Answer::HoldsDme(x, y, order) => say_xyz(34, x, y, order),
     }

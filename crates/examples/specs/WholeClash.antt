@@ -48,7 +48,7 @@ wholeClash =
     ∷ ask 17 2 0 0 accepted []
     ∷ ask 8 3 2 0 (sayXY 32 1 5) []
     ∷ [])
-    -- a row counts from the owned task: 0 has task 3 in its row, task 1 is in that of task 3; with the latter alone it is accepted
+    -- a row counts from the owned task: 0 has task 3 in its row, task 1 is only in that of task 3; where both are only there it is accepted
     ∷ on ((0, 11) ∷ (1, 1) ∷ row SME 0 8 ∷ row SME 3 2 ∷ row tasksOf 0 3 ∷ [])
     (ask 8 3 0 0 (sayXY 31 0 1) [] ∷ [])
     ∷ on ((0, 11) ∷ (1, 1) ∷ row SME 3 3 ∷ row tasksOf 0 3 ∷ [])

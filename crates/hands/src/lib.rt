@@ -3,7 +3,7 @@
 ghost use mathlib.Core.Path.{_≡_};
 ghost use Prim.Native.Nat.{_<_};
 ghost use lib.Bits.{bitAnd};
-ghost use Rattle.sets.specs.Mask.{alone};
+ghost use Rattle.sets.specs.Mask.{aloneIf};
 ghost use Rattle.rules.specs.Requests.{roleHand, subjectHand};
 ghost use Rattle.rules.specs.Numbers.{activeOwned, inHand, heldBy};
 ghost use Rattle.book.specs.Slice.{tables, Full};
@@ -27,7 +27,7 @@ pub fn subject_hand(book: &[u64], task: u64, order: u64) -> u64
 // Task t alone, where its cell has the subject; else nothing.
 fn held_row(book: &[u64], order: u64, subject: u64, t: u64) -> u64
     requires { ⌜ Full (now book) × (order < 64) × (subject < 64) × (t < 64) ⌝ }
-    ensures { λ v. ⌜ v ≡ alone (inHand (tables (now (book .entry))) order subject) t ⌝ }
+    ensures { λ v. ⌜ v ≡ aloneIf (inHand (tables (now (book .entry))) order subject) t ⌝ }
 {
     if book::subject_in(book::cell(book, order, t)) == subject + 1 {
         sets::alone(t)

@@ -7,7 +7,7 @@ use Prim.Native.Nat.{ℕ, _-_, _^_, _<_}
 use native.Mathlib.Decide.{ℕ-discrete}
 use lib.Bits.{bitAnd, bitOr, or-lt, or-zero-r}
 use lib.Pow.{pow-lt}
-use Rattle.sets.specs.Mask.{bit, without, meet, alone}
+use Rattle.sets.specs.Mask.{bit, without, meet, aloneIf}
 use Rattle.sets.specs.Search.{lowest}
 use Rattle.sets.proofs.Logic.{not-both}
 use Rattle.sets.proofs.MaskLaws.{bit-ext, bit-lt, bit-none, bit-not, in-one, one-out, in-l, in-r, in-cases, in-both, both-out}
@@ -91,7 +91,7 @@ module _ (d : Book) (s : Sized d) where
 
     -- The lowest of those left is asked, and joins where it has a junior in what there is. On with the rest ..
     pub raise-on : (all left : ℕ) {v : ℕ} → 0 < left → left < 2 ^ 64 → Raising d m all left
-        → v ≡ alone (λ i. meet (d .row juniors i) all) (lowest (bit left)) → Raising d m (bitOr all v) (without left (lowest (bit left)))
+        → v ≡ aloneIf (λ i. meet (d .row juniors i) all) (lowest (bit left)) → Raising d m (bitOr all v) (without left (lowest (bit left)))
     raise-on all left {v} some small now e = go (meet (d .row juniors r) all) refl
       where
         r : ℕ

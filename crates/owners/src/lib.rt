@@ -95,11 +95,11 @@ pub fn first_clash(book: &[u64], owner: Owner, b: u64, gain: u64) -> Clash
     requires { ⌜ WellFormed (now book) × (b < 64) ⌝ }
     ensures { λ v. ⌜ v ≡ foundClash (clashesBelow (tables (now (book .entry))) owner b gain) ⌝ }
 {
-    let clashing = search::meeting(book, book::SME, book::head(book, book::TASKS), gain);
-    if clashing == 0 {
+    let all_clashing = search::meeting(book, book::SME, book::head(book, book::TASKS), gain);
+    if all_clashing == 0 {
         return Clash::Nothing;
     }
-    let holders = owners_of(book, clashing);
+    let holders = owners_of(book, all_clashing);
     if holders == 0 {
         return Clash::Nothing;
     }
@@ -108,5 +108,5 @@ pub fn first_clash(book: &[u64], owner: Owner, b: u64, gain: u64) -> Clash
         return Clash::Nothing;
     }
     let owned = trade::owned_tasks(book, start_of(book, owner, o));
-    Clash::Owned(o, owned & clashing)
+    Clash::Owned(o, owned & all_clashing)
 }

@@ -4,7 +4,7 @@
 ghost use mathlib.Core.Path.{_≡_};
 ghost use Prim.Native.Nat.{_<_};
 ghost use Rattle.rules.specs.Book.{tableCount};
-ghost use Rattle.sets.specs.Mask.{meet, alone, picked};
+ghost use Rattle.sets.specs.Mask.{meet, aloneIf, picked};
 ghost use Rattle.sets.specs.Search.{lowest};
 ghost use Rattle.rules.specs.Requests.{isOpen};
 ghost use Rattle.rules.specs.Numbers.{between, outside};
@@ -43,7 +43,7 @@ pub fn first_pair(book: &[u64], table: u64, xs: u64, ys: u64) -> Found
 // Number r alone, where row r of the table meets the set; else nothing.
 pub fn meeting_row(book: &[u64], table: u64, set: u64, r: u64) -> u64
     requires { ⌜ Full (now book) × (table < tableCount) × (r < 64) ⌝ }
-    ensures { λ v. ⌜ v ≡ alone (λ i. meet ((tables (now (book .entry))) .row table i) set) r ⌝ }
+    ensures { λ v. ⌜ v ≡ aloneIf (λ i. meet ((tables (now (book .entry))) .row table i) set) r ⌝ }
 {
     if sets::meets(book::row(book, table, r), set) {
         sets::alone(r)

@@ -12,7 +12,7 @@ use lib.Dec.{eqb, eqb·zero-suc, eqb·suc-zero, eqb·suc-suc}
 use lib.Bits.{bitAnd, bitOr, and-shr, or-shr, and-mod, or-mod, and-mask, and-lt, and-le-l, or-lt}
 use lib.Pow.{pow-lt, pow-pos, shr-lt, shr-shr}
 use borrow.Author.Tests.{eqb-true, eq-eqb}
-use Rattle.sets.specs.Mask.{bit, with, without, within, meet, only, joined, alone, picked}
+use Rattle.sets.specs.Mask.{bit, with, without, within, meet, only, joined, aloneIf, picked}
 use Rattle.sets.proofs.Logic.{and-out, and-in, or-in-l, or-in-r, or-out, not-both, refute}
 
 -- One digit at a time.
@@ -269,10 +269,10 @@ joined-lt rows bound n m = joined-word rows n (λ i h. bound i) m
 -- The members of a set that pass a test: who is one passes and is a member, and back.
 module _ (f : ℕ → Bool) (m : ℕ) where
   pub picked-in : (i : ℕ) → i < 64 → bit m i ≡ true → f i ≡ true → bit (picked f m) i ≡ true
-  picked-in i h p q = joined-in (alone f) 64 m i i h p (ap (λ (x : ℕ). bit x i) (only-yes (f i) (2 ^ i) q) ∙ in-one i)
+  picked-in i h p q = joined-in (aloneIf f) 64 m i i h p (ap (λ (x : ℕ). bit x i) (only-yes (f i) (2 ^ i) q) ∙ in-one i)
 
   pub picked-out : (i : ℕ) → bit (picked f m) i ≡ true → (bit m i ≡ true) × (f i ≡ true)
-  picked-out i e = let w = joined-out (alone f) 64 m i e in go (w .0) (w .1) (f (w .0)) refl (w .2)
+  picked-out i e = let w = joined-out (aloneIf f) 64 m i e in go (w .0) (w .1) (f (w .0)) refl (w .2)
     where
       go : (j : ℕ) → bit m j ≡ true → (t : Bool) → f j ≡ t → bit (only t (2 ^ j)) i ≡ true → (bit m i ≡ true) × (f i ≡ true)
       go j p true q r = subst (λ (x : ℕ). (bit m x ≡ true) × (f x ≡ true)) (one-out j i r) (p, q)
@@ -280,7 +280,7 @@ module _ (f : ℕ → Bool) (m : ℕ) where
 
   -- They are a word.
   pub picked-lt : picked f m < 2 ^ 64
-  picked-lt = joined-word (alone f) 64 (λ i h. only-lt (f i) (2 ^ i) (pow-lt h)) m
+  picked-lt = joined-word (aloneIf f) 64 (λ i h. only-lt (f i) (2 ^ i) (pow-lt h)) m
 
 -- It is the same whether a set is cut down first and then picked from, or picked from first.
 pub picked-both : (f : ℕ → Bool) (m n : ℕ) → picked f (bitAnd m n) ≡ bitAnd (picked f m) n

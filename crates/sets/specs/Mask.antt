@@ -36,9 +36,9 @@ joined zero rows m = 0
 joined (suc n) rows m = let r = rows n in bitOr (joined n rows m) (only (bit m n) r)
 
 -- number i alone, where it passes f; else the empty set
-abbrev pub alone : (ℕ → Bool) → ℕ → ℕ
-alone f i = only (f i) (2 ^ i)
+abbrev pub aloneIf : (ℕ → Bool) → ℕ → ℕ
+aloneIf f i = only (f i) (2 ^ i)
 
 -- the members of m that pass f
 abbrev pub picked : (ℕ → Bool) → ℕ → ℕ
-picked f m = joined 64 (alone f) m
+picked f m = joined 64 (aloneIf f) m

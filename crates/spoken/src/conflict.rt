@@ -6,7 +6,7 @@
 // 25: 8. 26: 8 and 10. 27: 2, 5 and 6, and 3 for a role binding. 28: 4, 6 and 7. 29: 13. 30: 13 and 14. 31: 2, 3 and 8.
 // 32: 2, 3, 8 and 10. 33 and 34: 15 and 16.
 use crate::sentence::Facts;
-use crate::sentence::tell_if;
+use crate::sentence::tell;
 use crate::sentence::tell_nth;
 
 // Numbers 20 to 24, of the two tasks themselves; then 22 for a role binding and 23 for a dynamic exclusion.
@@ -69,7 +69,7 @@ fn of_roles(paper: &mut [u8], names: &[u8], n: u64, v: Facts) {
     );
 }
 
-// Numbers 31 and 32, of what is gained, from here on: n is 1 for a role and 2 for a person. Who owns how many tasks that exclude ..
+// Numbers 31 and 32, of what is gained, in five parts; n is 1 for a role and 2 for a person. Who owns how many tasks that exclude ..
 fn owns_excluding(paper: &mut [u8], names: &[u8], n: u64, several: bool, v: Facts) {
     tell_nth(
         paper,
@@ -81,39 +81,43 @@ fn owns_excluding(paper: &mut [u8], names: &[u8], n: u64, several: bool, v: Fact
     tell_nth(
         paper,
         names,
-        b"| task that excludes | tasks that exclude ",
+        b"| task that excludes | tasks, each of which excludes ",
         either(several, 2, 1),
         v,
     );
 }
 
-// .. what they would gain, the task itself or a task or tasks of role a; and which these tasks are ..
+// .. what they would gain, the task itself or a task of role a ..
 fn would_gain(paper: &mut [u8], names: &[u8], n: u64, gained: u64, v: Facts) {
+    tell_nth(paper, names, b"|task %ta|a task of role %ra", gained, v);
     tell_nth(
         paper,
         names,
-        b"|task %ta|a task of role %ra|tasks of role %ra",
-        gained,
-        v,
-    );
-    tell_nth(
-        paper,
-        names,
-        b"|, which it would gain (SME): %my; to resolve|, which they would gain (SME): %my; to resolve",
+        b"|, which it would gain (SME): |, which they would gain (SME): ",
         n,
         v,
     );
 }
 
-// .. and what resolves it. It is said of one task, and holds for each: the request is accepted when all of them are out of the way, if nobody
-// else has a clash.
+// .. which these tasks are ..
+fn which(paper: &mut [u8], names: &[u8], several: bool, v: Facts) {
+    tell_nth(
+        paper,
+        names,
+        b"|task %my; to resolve, for that task: |tasks %my; to resolve, for each of these tasks: ",
+        either(several, 2, 1),
+        v,
+    );
+}
+
+// .. what resolves it for each of them ..
 fn ways_out(paper: &mut [u8], names: &[u8], n: u64, gained: u64, v: Facts) {
     tell_nth(
         paper,
         names,
-        b"|: take it from role %rx and from each junior that brings it (take-task, take-junior)\
-          |: take each role that brings it from them (take-role), \
-          or it from these roles and from each junior that brings it (take-task, take-junior)",
+        b"|take it from role %rx and from each junior that brings it (take-task, take-junior)\
+          |take from them each role that brings it (take-role), \
+          or take it from these roles and from each junior that brings it (take-task, take-junior)",
         n,
         v,
     );
@@ -124,24 +128,35 @@ fn ways_out(paper: &mut [u8], names: &[u8], n: u64, gained: u64, v: Facts) {
         gained,
         v,
     );
-    tell_nth(
+    tell(
         paper,
         names,
-        b"| while no order is open (take-sme), with a DME in its place if need be (dme); or assign elsewhere\
-          | while no order is open (take-sme), with a DME in its place if need be (dme); or choose someone else",
-        n,
+        b" while no order is open (take-sme), with a DME in its place if need be (dme); or, in place of all that, ",
         v,
     );
 }
 
-// All of it.
+// .. and what does for all of them together. In kinds 8 and 9 others may have a clash of their own; in kind 10 nobody else is asked.
+fn instead(paper: &mut [u8], names: &[u8], n: u64, v: Facts) {
+    tell_nth(
+        paper,
+        names,
+        b"|assign elsewhere; another role or a person may be named next\
+          |assign elsewhere, or let someone else have role %rb in their place (take-role, assign-role); another person may be named next\
+          |choose someone else",
+        either(v.kind == 10, 3, n),
+        v,
+    );
+}
+
 fn of_clash(paper: &mut [u8], names: &[u8], n: u64, v: Facts) {
     let several = 1 < sets::count(v.y);
-    let task = v.kind == 8;
+    let gained = either(v.kind == 8, 1, 2);
     owns_excluding(paper, names, n, several, v);
-    would_gain(paper, names, n, either(task, 1, either(several, 3, 2)), v);
-    tell_if(paper, names, several, b", for each of these", v);
-    ways_out(paper, names, n, either(task, 1, 2), v);
+    would_gain(paper, names, n, gained, v);
+    which(paper, names, several, v);
+    ways_out(paper, names, n, gained, v);
+    instead(paper, names, n, v);
 }
 
 // Numbers 33 and 34, of what the person holds: by SME in any open order, by DME in the order itself.

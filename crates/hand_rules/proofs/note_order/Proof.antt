@@ -4,7 +4,7 @@ use Prim.Native.Nat.{ℕ, _^_, _<_}
 use native.Mathlib.Omega.{arith}
 use lib.Bits.{bitOr}
 use lib.ListN.{length}
-use Rattle.sets.specs.Mask.{alone, picked}
+use Rattle.sets.specs.Mask.{aloneIf, picked}
 use Rattle.sets.proofs.MemberLaws.{lowest-lt, rest-lt, joined-on, joined-done}
 use Rattle.rules.specs.Book.{subjectIn}
 use Rattle.rules.specs.Numbers.{inHand, heldBy}
@@ -80,7 +80,7 @@ loop-again c =
           ap (λ (m : ℕ). bitOr m (picked (inHand d (s .order) k) (c .rest .result)))
           (c .before .note .ensures .1 k ∙ noted-joins _ _ k (words (l .held) k))
           ∙ rw (hand, c .before .before .before .before .before .lowest .ensures, c .rest .ensures)
-          (joined-on (alone (inHand d (s .order) k)) (words (l .held) k) some (l .inv .0) (l .inv .2 k h)),
+          (joined-on (aloneIf (inHand d (s .order) k)) (words (l .held) k) some (l .inv .0) (l .inv .2 k h)),
     )
 
 returns : tie.Need-returns Inv-loop μ-loop
@@ -88,7 +88,7 @@ returns c =
     let s = c .before .before .before .before .args in
     let l = c .before .loop in
     let done = rw (c .loop-test .left) at (l .inv .2) in
-    (l .inv .1, λ k h. joined-done (alone (inHand (tables (s .book .now)) (s .order) k)) (words (l .held) k) (done k h))
+    (l .inv .1, λ k h. joined-done (aloneIf (inHand (tables (s .book .now)) (s .order) k)) (words (l .held) k) (done k h))
 
 pub note-order-spec : {M : Type 1} → statement M
 note-order-spec =

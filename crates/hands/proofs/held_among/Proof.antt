@@ -3,7 +3,7 @@ use mathlib.Core.Path.{_≡_, refl, ap, _∙_}
 use Prim.Native.Nat.{ℕ, _^_, _<_}
 use native.Mathlib.Omega.{arith}
 use lib.Bits.{bitAnd, bitOr, and-lt}
-use Rattle.sets.specs.Mask.{alone, picked}
+use Rattle.sets.specs.Mask.{aloneIf, picked}
 use Rattle.sets.proofs.MaskLaws.{picked-both}
 use Rattle.sets.proofs.MemberLaws.{lowest-lt, rest-lt, joined-on, joined-done}
 use Rattle.rules.specs.Book.{orders}
@@ -50,7 +50,7 @@ loop-again c =
     let l = c .before .before .before .before .loop in
     rw (c .rest .ensures, c .before .held-row .ensures, c .before .before .lowest .ensures) (
       omega (arith, rest-lt (l .left) (omega arith) (l .inv .0)),
-      joined-on (alone (inHand (tables (s .book .now)) (s .order) (s .subject))) (l .held) (omega arith) (l .inv .0) (l .inv .1),
+      joined-on (aloneIf (inHand (tables (s .book .now)) (s .order) (s .subject))) (l .held) (omega arith) (l .inv .0) (l .inv .1),
     )
 
 returns : tie.Need-returns Inv-loop μ-loop
@@ -60,7 +60,7 @@ returns c =
     let l = c .before .loop in
     let d = tables (s .book .now) in
     let mine = inHand d (s .order) (s .subject) in
-    joined-done (alone mine) (l .held) (rw (c .loop-test .left) at (l .inv .1))
+    joined-done (aloneIf mine) (l .held) (rw (c .loop-test .left) at (l .inv .1))
     ∙ ap (λ (m : ℕ). picked mine (bitAnd m (s .those))) (c .before .before .row .ensures)
     ∙ picked-both mine (d .row orders (s .order)) (s .those)
 

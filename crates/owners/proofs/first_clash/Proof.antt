@@ -78,22 +78,24 @@ owned-tasks-requires c κs = search needs
 
 returns-4 : tie.Need-returns-4
 returns-4 c =
-    let m = c .before .before .before .before .before .before .before in
+    let owning = c in
+    let starter = owning .before .before .before in
+    let m = starter .before .before .before .before in
     let b = m .before .before .before .before .before in
     let s = b .args in
     let d = tables (s .book .now) in
     let sized = read-sized (words (s .book .now)) (λ i. omega (arith, m .before .before .before .before .shared-slice-known .given i)) in
     let some = m .before .before .meeting .ensures ∙ ap (λ (x : ℕ). picked (λ t. meet (d .row SME t) (s .gain)) x) (m .before .before .before .head .ensures) in
-    let up = c .before .before .before .before .above .ensures ∙ ap (above d) (c .before .before .before .before .before .alone .ensures) in
-    let at = c .before .before .before .lowest-starter .ensures
+    let up = starter .before .above .ensures ∙ ap (above d) (starter .before .before .alone .ensures) in
+    let at = starter .lowest-starter .ensures
     ∙ ap₂ (λ (x y : ℕ). lowest (startsInBoth d (s .owner) x y)) up (m .owners-of .ensures ∙ ap (ownersOf d) some) in
-    let o = c .before .before .before .lowest-starter .result in
+    let o = starter .lowest-starter .result in
     let l : o < 64 = omega arith in
     let starts : ℕ → Bool = startsInBoth d (s .owner) (above d (2 ^ s .b)) (ownersOf d (allClashing d (s .gain))) in
     let holds = ap starts at ∙ lowest-passes 64 0 starts (omega (arith, at)) in
     clash-at (clashesBelow d (s .owner) (s .b) (s .gain)) o _ l
     (at ∙ first-owner d sized (b .pre .0 .1) (s .owner) (s .b) (s .gain) (omega arith) (search needs))
-    (ap₂ bitAnd (c .owned-tasks .ensures ∙ ap (ownedTasks d) (c .before .start-of .ensures)) some
+    (ap₂ bitAnd (owning .owned-tasks .ensures ∙ ap (ownedTasks d) (owning .before .start-of .ensures)) some
     ∙ whole-clash d sized (b .pre .0 .1) (s .owner) (s .b) (s .gain) (omega arith) (search needs) o l holds)
 
 pub first-clash-spec : {M : Type 1} → statement M

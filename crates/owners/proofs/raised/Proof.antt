@@ -3,7 +3,7 @@ use mathlib.Core.Path.{ap, _∙_, subst}
 use Prim.Native.Nat.{_-_, _^_, _<_}
 use native.Mathlib.Omega.{arith}
 use lib.Bits.{and-lt}
-use Rattle.sets.specs.Mask.{meet, alone}
+use Rattle.sets.specs.Mask.{meet, aloneIf}
 use Rattle.sets.proofs.MemberLaws.{lowest-lt, rest-lt}
 use Rattle.rules.specs.Book.{juniors}
 use Rattle.rules.proofs.BookLaws.{read-sized}
@@ -50,7 +50,7 @@ loop-again c =
     let l = c .before .before .before .before .loop in
     let d = tables (s .book .now) in
     let sized = read-sized (words (s .book .now)) (λ i h. (c .before .before .before .before .before .before .shared-slice-known .given i) .fits) in
-    let row = c .before .meeting-row .ensures ∙ ap (alone (λ i. meet (d .row juniors i) (l .all))) (c .before .before .lowest .ensures) in (
+    let row = c .before .meeting-row .ensures ∙ ap (aloneIf (λ i. meet (d .row juniors i) (l .all))) (c .before .before .lowest .ensures) in (
       omega (arith, c .rest .ensures, rest-lt (l .left) (omega arith) (l .inv .0)),
       rw (c .rest .ensures) (raise-on d sized (s .set) (search needs) (l .all) (l .left) (omega arith) (l .inv .0) (l .inv .1) row),
     )

@@ -3,7 +3,7 @@ use mathlib.Core.Path.{_≡_, refl, ap, ap₂, _∙_}
 use Prim.Native.Nat.{ℕ, _^_, _<_}
 use native.Mathlib.Omega.{arith}
 use lib.Bits.{bitOr}
-use Rattle.sets.specs.Mask.{meet, joined, alone, picked}
+use Rattle.sets.specs.Mask.{meet, joined, aloneIf, picked}
 use Rattle.sets.proofs.MemberLaws.{lowest-lt, rest-lt, joined-on, joined-done}
 use Rattle.book.specs.Slice.{tables}
 use borrow.Author.Needs.{needs}
@@ -38,7 +38,7 @@ loop-again : tie.Need-loop-again Inv-loop μ-loop
 loop-again c =
     let l = c .before .before .before .before .loop in
     let s = c .before .before .before .before .before .before .args in
-    let rows : ℕ → ℕ = alone (λ i. meet ((tables (s .book .now)) .row (s .table) i) (s .set)) in
+    let rows : ℕ → ℕ = aloneIf (λ i. meet ((tables (s .book .now)) .row (s .table) i) (s .set)) in
     let row = c .before .meeting-row .ensures ∙ ap rows (c .before .before .lowest .ensures) in (
       omega (arith, c .rest .ensures, rest-lt (l .left) (omega arith) (l .inv .0)),
       ap₂ (λ (v m : ℕ). bitOr (bitOr (l .out) v) (joined 64 rows m)) row (c .rest .ensures)
@@ -49,7 +49,7 @@ returns : tie.Need-returns Inv-loop μ-loop
 returns c =
     let s = c .before .before .before .args in
     let l = c .before .loop in
-    let rows : ℕ → ℕ = alone (λ i. meet ((tables (s .book .now)) .row (s .table) i) (s .set)) in
+    let rows : ℕ → ℕ = aloneIf (λ i. meet ((tables (s .book .now)) .row (s .table) i) (s .set)) in
     let none : 0 ≡ l .left = omega arith in
     joined-done rows (l .out) (ap (λ (m : ℕ). bitOr (l .out) (joined 64 rows m)) none ∙ l .inv .1)
 
