@@ -8,11 +8,12 @@
  * book, ready for use. The words are in the machine's own byte order; document 01 says what stands in each. The library keeps
  * no copy and no state of its own between calls: the book is all there is.
  *
- * WHAT IS PROVED, for every call whose pointers are as asked below: the four words of the answer and every word of the book
- * afterwards are those of document 01 with change requests M-100 (kinds 18 to 21), M-101 (kind 10 makes no role active), M-104 (an
- * SME is kept over all open orders together, and 33 and 34 name the order) and M-105 (31 and 32 name all tasks that stand in the way),
- * whatever the words, the count, the kind and the numbers are. Nothing is asked of their values. A damaged book, a wrong count, an unknown kind, numbers out of range: each has its own answer.
- * The number 0 is told of an accepted request, and of an audit that finds nothing, and of nothing else.
+ * WHAT IS PROVED, for every call whose pointers are as asked below: the four words of the answer and every word of the book afterwards
+ * are those of document 01 with change requests M-100 (kinds 18 to 21), M-101 (kind 10 makes no role active), M-104 (an SME is kept
+ * over all open orders together, and 33 and 34 name the order) and M-105 (31 and 32 name all tasks that stand in the way), whatever
+ * the words, the count, the kind and the numbers are. Nothing is asked of their values. A damaged book, a wrong count, an unknown
+ * kind, numbers out of range: each has its own answer. The number 0 is told of an accepted request, and of an audit that finds
+ * nothing, and of nothing else.
  *
  * Of several requests, proved as well (change request M-102) of a book whose audit answers 0: a list of requests of kinds 4 to 10 that is
  * accepted one after the other is accepted in every other order too, and the book is the same in every word afterwards; so it does not
