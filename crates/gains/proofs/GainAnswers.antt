@@ -52,7 +52,7 @@ module _ (d : Book) (a b : ℕ) where
     junior-owners e p =
         passed d a b selfInheritance _ _ _ (λ rest. refl) (ne-eqb a b two) (passed d a b cycle _ _ _ (λ rest. refl) e p)
 
-  -- Kind 10: y is what clashes with the gain of what subject b owns.
+  -- Kind 10: of what subject b owns, y is what clashes with the gain.
   module _ {roles owned gain y : ℕ} (has : roles ≡ d .row rolesOf b) (owns : owned ≡ ownedTasks d roles) (gains : gain ≡ gainedRole d a)
       (found : y ≡ clashing (d .row SME) gain owned) where
     own : y ≡ clashing (d .row SME) (gainedRole d a) (ownedTasks d (subject d b))

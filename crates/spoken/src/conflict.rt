@@ -115,9 +115,9 @@ fn ways_out(paper: &mut [u8], names: &[u8], n: u64, gained: u64, v: Facts) {
     tell_nth(
         paper,
         names,
-        b"|take it from role %rx and from each junior that brings it (take-task, take-junior)\
+        b"|take it from wherever it comes, role %rx itself or juniors (take-task, take-junior)\
           |take from them each role that brings it (take-role), \
-          or take it from these roles and from each junior that brings it (take-task, take-junior)",
+          or take it from wherever it comes, these roles themselves or juniors (take-task, take-junior)",
         n,
         v,
     );
@@ -142,7 +142,8 @@ fn instead(paper: &mut [u8], names: &[u8], n: u64, v: Facts) {
         paper,
         names,
         b"|assign elsewhere; another role or a person may be named next\
-          |assign elsewhere, or let someone else have role %rb in their place (take-role, assign-role); another person may be named next\
+          |assign elsewhere, or take from them each role that brings role %rb and give it to someone else (take-role, assign-role); \
+          another person may be named next\
           |choose someone else",
         either(v.kind == 10, 3, n),
         v,
