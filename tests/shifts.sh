@@ -6,6 +6,30 @@ for shift in shifts/*.txt; do
     tools/run-program target/bin/panel <"$shift" >target/printed
     holds "the shift $(basename "$shift" .txt) prints what stands beside it" cmp target/printed "${shift%.txt}.out"
 done
+# Where the comment behind a request begins with an answer, its number or all four or the word accepted, that is what the line is answered. A
+# word and a colon may stand before it: `P6: 32 0 1 0`. In the shift digits a comment is only more bytes.
+told_as_commented() { # SHIFT ..
+    for shift in "$@"; do
+        [ "$shift" != shifts/digits.txt ] || continue
+        awk '
+            FNR == NR { if ($1 ~ /^[0-9]+:$/ && $2 ~ /^[0-9]+$/) told[$1 + 0] = $2 " " $3 " " $4 " " $5 " "; next }
+            !/^[^#]*[^# ][^#]*#/ { next }
+            { sub(/^[^#]*# */, ""); sub(/^[A-Za-z][A-Za-z0-9 ]*: +/, ""); said = "" }
+            /^accepted/ { said = "0" }
+            match($0, /^[0-9]+( [0-9]+ [0-9]+ [0-9]+)?($|[:, ])/) { said = substr($0, 1, RLENGTH); sub(/[:, ]$/, "", said) }
+            said != "" && index(told[FNR], said " ") != 1 { print FILENAME ", line " FNR ": " said ", and told is " told[FNR]; wrong = 1 }
+            END { exit wrong }' "${shift%.txt}.out" "$shift" || return 1
+    done
+}
+sees_a_wrong_comment() {
+    sed 's/P6: 32 0 1 0/P6: 32 0 0 0/' shifts/p1-p12.txt >target/commented.txt && ! cmp -s shifts/p1-p12.txt target/commented.txt || return 1
+    cp shifts/p1-p12.out target/commented.out
+    ! told_as_commented target/commented.txt >target/printed && grep -q '32 0 0 0, and told is 32 0 1 0' target/printed
+}
+holds "what the comments of the shifts say of an answer is what is told" told_as_commented shifts/*.txt
+holds ".. and a comment that says something else is seen" sees_a_wrong_comment
+rm -f target/commented.txt target/commented.out
+
 # The two foremen of M-102, as the shift foremen shows them: one list in two orders, with `show` before and after each, and between the two
 # all of the first is taken back.
 between_shows() { # N: the requests between the Nth `show` and the next, in their order
