@@ -2,7 +2,7 @@
 -- So what document 01 asks of each owner is asked once, from the role or the tasks, and the owners are read off.
 use mathlib.Core.Path.{_≡_, sym, ap, ap₂, _∙_, subst}
 use mathlib.Core.Bool.{Bool, true, _&&_}
-use Prim.Native.Nat.{ℕ, zero, _^_, _≤_, _<_}
+use Prim.Native.Nat.{ℕ, _^_, _≤_, _<_}
 use native.Mathlib.Omega.{arith}
 use lib.Bits.{bitAnd, and-lt}
 use lib.Pow.{pow-lt}
@@ -11,7 +11,6 @@ use Rattle.sets.specs.Search.{lowest}
 use Rattle.sets.proofs.Logic.{and-out, refute}
 use Rattle.sets.proofs.MaskLaws.{bit-and, bit-ext, in-one, one-out, zero-none, only-lt, only-yes, picked-lt}
 use Rattle.sets.proofs.SearchLaws.{lowest-same, lowest-most, lowest-end}
-use Rattle.chains.specs.Closure.{close}
 use Rattle.chains.specs.Relation.{In, Step, Chain, stay, more}
 use Rattle.chains.proofs.RelationLaws.{chain-join}
 use Rattle.chains.proofs.ClosureLaws.{close-lt, close-chain, from-close}

@@ -1,4 +1,5 @@
--- Who starts with a role above b and with one that owns a clashing task has a clash; the lowest of them is the one.
+-- Who starts with a role above b and with one that owns a clashing task has a clash; the lowest of them is the one, and all that it owns of the
+-- clashing tasks is the clash.
 use mathlib.Core.Path.{sym, ap, ap₂, _∙_}
 use mathlib.Core.Bool.{Bool}
 use Prim.Native.Nat.{ℕ, _^_, _<_}
