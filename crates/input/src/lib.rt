@@ -3,6 +3,8 @@
 // The caller lends two arrays: `piece` for the bytes read and not yet looked at, `text` for the line. A line that is
 // longer than `text` is cut there, and told as not whole; its other bytes are passed over. Where reading fails there is no
 // line any more, not even the part that came before: it is told as failed, and the caller stops.
+#![tactic(auto)]
+
 ghost use Rattle.std.specs.Prelude.{◌≡◌, ◌≤◌, length};
 ghost use Rattle.input.specs.Lines.{unread, NoLine, Along, Taken};
 
