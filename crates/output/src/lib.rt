@@ -3,10 +3,15 @@
 // The paper is ROOM bytes, all 0 at first. Its first four bytes are its own: how much is used (two of them), whether what is put on it
 // stands inside a JSON string, and whether a write has failed.
 
+#![tactic(auto)]
+
 ghost use Rattle.std.specs.Prelude.{◌≤◌, ◌<◌, length};
 
 // How large a paper is.
 pub const ROOM: usize = 4096;
+
+// The descriptor of standard output.
+const OUTPUT: i32 = 1;
 
 // Where the text begins.
 const START: usize = 4;
@@ -56,7 +61,7 @@ pub fn has_failed(paper: &[u8]) -> bool {
 // Writes the text up to `to`. After a write that failed nothing is written any more.
 fn write_to(paper: &mut [u8], to: usize) {
     if START <= to && to <= paper.len() && !has_failed(paper) {
-        if !io::write_all(libc::STDOUT_FILENO, &paper[START..to]) {
+        if !io::write_all(OUTPUT, &paper[START..to]) {
             set(paper, FAILED, 1);
         }
     }
