@@ -7,7 +7,7 @@ ghost use Rattle.answers.specs.Findings.{found};
 ghost use Rattle.answers.specs.Replies.{reply_of};
 
 // The answer to a request.
-#[derive(Drop)]
+#[derive(Clone, Copy)]
 pub enum Answer {
     Accepted,
     WrongLength,
@@ -39,7 +39,7 @@ pub enum Answer {
 }
 
 // What the audit finds: the lowest broken rule, where the book is well-formed.
-#[derive(Drop)]
+#[derive(Clone, Copy)]
 pub enum Finding {
     Sound,
     WrongLength,
@@ -48,7 +48,7 @@ pub enum Finding {
 }
 
 // An answer in numbers, as it leaves the program.
-#[derive(Drop)]
+#[derive(Clone, Copy)]
 pub struct Reply {
     pub number: u64,
     pub x: u64,

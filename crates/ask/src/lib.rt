@@ -7,7 +7,7 @@ ghost use Rattle.book.specs.Slice.{tables, Full};
 ghost use Rattle.ask.specs.Arguments.{need_of, asked, fault_of};
 
 // What an argument must be.
-#[derive(Drop)]
+#[derive(Clone, Copy)]
 pub enum Argument {
     Unused,
     InRange,
@@ -19,7 +19,7 @@ pub enum Argument {
 }
 
 // What a, b and c must be.
-#[derive(Drop)]
+#[derive(Clone, Copy)]
 pub struct Row(pub Argument, pub Argument, pub Argument);
 
 // Row 0, and one for each kind.

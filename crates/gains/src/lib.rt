@@ -12,7 +12,7 @@ use answers::Answer;
 use owners::{Clash, Owner};
 
 // What an owner would gain: task a itself, or all tasks owned by role a.
-#[derive(Drop)]
+#[derive(Clone, Copy)]
 pub enum Gain {
     Task,
     Role,

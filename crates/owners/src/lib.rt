@@ -6,7 +6,7 @@ ghost use Rattle.owners.specs.Owners.{start_of, clashes_below, found_clash};
 ghost use Rattle.owners.specs.Rising.{above, Raised, owners_of, starters, starts_in_both};
 
 // Whether numbers 0 to 63 stand for roles or for subjects.
-#[derive(Drop)]
+#[derive(Clone, Copy)]
 pub enum Owner {
     Role,
     Subject,

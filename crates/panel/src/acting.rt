@@ -9,7 +9,7 @@ use answers::Answer;
 use typed::Line;
 
 // What a line got from the book: an answer, or nothing, since it asked for none.
-#[derive(Drop)]
+#[derive(Clone, Copy)]
 pub enum Acted {
     Answered(Answer),
     Nothing,

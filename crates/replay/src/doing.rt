@@ -8,7 +8,7 @@ use answers::Reply;
 use stream::Command;
 
 // What came of a line.
-#[derive(Drop)]
+#[derive(Clone, Copy)]
 pub enum Outcome {
     // Every word is 0, and the book has as many words.
     Cleared(usize),

@@ -22,7 +22,7 @@ fn excluded(book: &[u64], set: u64) -> u64
 }
 
 // What things may be to another one.
-#[derive(Drop)]
+#[derive(Clone, Copy)]
 enum Relation {
     // Roles above a role.
     Seniors,

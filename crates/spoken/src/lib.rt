@@ -13,7 +13,7 @@ mod wanted;
 use sentence::Facts;
 
 // How an answer is told: as JSON or plainly, and whether the request was only tried.
-#[derive(Drop)]
+#[derive(Clone, Copy)]
 pub struct How {
     pub json: bool,
     pub trial: bool,

@@ -7,7 +7,7 @@ use crate::standing;
 
 // The facts that a sentence may tell: the numbers of the request and of its answer, and how person c of an allocation stands: the roles
 // assigned to them, and their active word.
-#[derive(Drop)]
+#[derive(Clone, Copy)]
 pub struct Facts {
     pub kind: u64,
     pub a: u64,

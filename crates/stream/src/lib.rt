@@ -15,7 +15,7 @@ ghost use Rattle.stream.specs.declared.Command.TheVariants.{Audit};
 pub const LONGEST: usize = 4700;
 
 // What a line says.
-#[derive(Drop)]
+#[derive(Clone, Copy)]
 pub enum Command {
     New(usize),
     Word(usize, u64),

@@ -9,7 +9,7 @@ ghost use Rattle.owners.specs.Owners.{start_of};
 ghost use Rattle.table_rules.specs.Rows.{row_kept};
 
 // What is asked of one task in each of the four pair tables: rule 1, and rule 2.
-#[derive(Drop)]
+#[derive(Clone, Copy)]
 pub enum RowRule {
     NotOwn,
     Symmetric,

@@ -6,7 +6,7 @@ ghost use Rattle.typed.specs.Arguments.{wanted};
 use crate::words;
 
 // What is wrong with a line.
-#[derive(Drop)]
+#[derive(Clone, Copy)]
 pub enum Reason {
     // The word is no word of the panel and no number of a kind.
     UnknownWord,
@@ -32,14 +32,14 @@ pub enum Reason {
 }
 
 // What a word stands for.
-#[derive(Drop)]
+#[derive(Clone, Copy)]
 pub enum Value {
     Is(u64),
     Not(Reason),
 }
 
 // An argument, with where the line goes on behind it; or what is wrong, with where the word stands.
-#[derive(Drop)]
+#[derive(Clone, Copy)]
 pub enum Argument {
     Is(u64, usize),
     Not(Reason, usize),
@@ -53,7 +53,7 @@ const ANY: u64 = 5;
 const MASK: u64 = 6;
 
 // What a kind takes as a, b and c.
-#[derive(Drop)]
+#[derive(Clone, Copy)]
 pub struct Takes(pub u64, pub u64, pub u64);
 
 // Row 0, and one for each kind.

@@ -21,7 +21,7 @@ pub use words::next;
 pub const ROOM: usize = 1024;
 
 // A request; the numbers that its kind does not use are 0.
-#[derive(Drop)]
+#[derive(Clone, Copy)]
 pub struct Request {
     pub kind: u64,
     pub a: u64,
@@ -30,7 +30,7 @@ pub struct Request {
 }
 
 // What a line says.
-#[derive(Drop)]
+#[derive(Clone, Copy)]
 pub enum Line {
     Blank,
     Ask(Request),
