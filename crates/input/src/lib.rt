@@ -11,7 +11,7 @@ ghost use Rattle.input.specs.Lines.{unread, NoLine, Along, Taken};
 use std::io::Read;
 
 // Where the reading stands.
-#[derive(Drop)]
+#[derive(Clone, Copy)]
 pub struct Reading {
     // What is still to be looked at of the piece: from `at` to before `end`.
     at: usize,

@@ -20,7 +20,7 @@ use std::io::{IsTerminal, Read};
 use typed::Line;
 
 // What the panel was asked for, and whether somebody sits before it.
-#[derive(Drop)]
+#[derive(Clone, Copy)]
 struct Options {
     json: bool,
     strict: bool,
@@ -35,7 +35,7 @@ struct Went {
 }
 
 // Where a shift stands: what was read last, and how it went so far.
-#[derive(Drop)]
+#[derive(Clone, Copy)]
 struct State {
     reading: input::Reading,
     wrong: bool,
