@@ -1,5 +1,7 @@
 // What comes back: a case for each number of document 01, and the audit's finding likewise.
 // specs/Answers.antt and specs/Findings.antt give the document's number, x, y and z of each case.
+#![tactic(auto)]
+
 ghost use Rattle.std.specs.Prelude.{◌≡◌};
 ghost use Rattle.rules.specs.Numbers.{say, say_x, say_xy, say_xyz, is_accepted};
 ghost use Rattle.answers.specs.Answers.{said};

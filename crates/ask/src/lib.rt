@@ -1,4 +1,6 @@
 // The arguments of a request: the one fixed table of what each must be, and the first argument at fault.
+#![tactic(auto)]
+
 ghost use Rattle.std.specs.Prelude.{◌≡◌, ◌&&◌, not, ◌<◌, ltb, eqb};
 ghost use Rattle.sets.specs.Mask.{bit, within};
 ghost use Rattle.rules.specs.Book.{head_words, tasks};

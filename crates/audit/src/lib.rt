@@ -1,4 +1,6 @@
 // Document 01, "The audit": it only reads, and names the lowest broken rule.
+#![tactic(auto)]
+
 ghost use Rattle.std.specs.Prelude.{◌≡◌, false, not, ◌<◌};
 ghost use Rattle.rules.specs.Book.{SME, DME};
 ghost use Rattle.rules.specs.Trade.{subject_group, role_group};

@@ -1,4 +1,6 @@
 // What conflicts with a new binding, in document 01's order: kind 6 (RB) and kind 7 (SB).
+#![tactic(auto)]
+
 ghost use Rattle.std.specs.Prelude.{◌≡◌, [], ◌∷◌, ◌<◌};
 ghost use Rattle.rules.specs.Book.{SME, DME};
 ghost use Rattle.rules.specs.Numbers.{accepted, given_pair, between, sme_between_groups, dme_between_groups, rb_conflicts, sb_conflicts, first_of};

@@ -1,5 +1,7 @@
 // The words of the book on a lent slice: rows read and cells written by index. Where each word lies is known here alone.
 // Whoever calls these has seen that the slice is full; the tables are numbered as in document 01's list.
+#![tactic(auto)]
+
 ghost use Rattle.std.specs.Prelude.{◌≡◌, ◌+◌, ◌*◌, ◌≤◌, ◌<◌};
 ghost use Rattle.sets.specs.Mask.{bit};
 ghost use Rattle.rules.specs.Book.{head_words, table_count, table_at, cells_at, cell_base, cell_of, role_in, subject_in};

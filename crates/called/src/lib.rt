@@ -1,4 +1,6 @@
 // Things as they are told: the number, and behind it the name where the panel has been given one.
+#![tactic(auto)]
+
 ghost use Rattle.std.specs.Prelude.{◌<◌};
 
 // The word of a sort.

@@ -1,5 +1,7 @@
 // The changes that write an order's cells in place: kinds 12 and 14 empty them, kind 13 stamps those of a hand.
 // Whoever calls these has seen that the slice is full and that the numbers are in range.
+#![tactic(auto)]
+
 ghost use Rattle.std.specs.Prelude.{◌≡◌, true, ◌≤◌, ◌<◌};
 ghost use Rattle.rules.specs.Requests.{set_order, stamped_cell, stamped};
 ghost use Rattle.book.specs.Slice.{Full, Became, with_cell};

@@ -1,5 +1,6 @@
 // Between a program and the command that runs it: what the program was asked for, and how it went. A Rattle program ends with no
 // status of its own, so it puts a digit on descriptor 3, and tools/run-program ends with that.
+#![tactic(auto)]
 
 #![tactic(auto)]
 

@@ -1,4 +1,6 @@
 // A decimal number of any length, read from its bytes. specs/Decimal.antt says what the bytes write.
+#![tactic(auto)]
+
 ghost use Rattle.std.specs.Prelude.{◌≡◌, ℕ, ◌<◌};
 ghost use Rattle.decimal.specs.Decimal.{is_digit, sized, shifted, number_of};
 

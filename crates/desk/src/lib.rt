@@ -1,5 +1,7 @@
 // The request entry. It trusts nobody: the length, the words and the arguments are looked at first, in document 01's order, and
 // what is no kind is refused where the kinds part.
+#![tactic(auto)]
+
 ghost use Rattle.std.specs.Prelude.{◌≡◌, ◌<◌};
 ghost use Rattle.rules.specs.Book.{table_count};
 ghost use Rattle.rules.specs.Requests.{row_of};

@@ -1,4 +1,6 @@
 // What conflicts with a new exclusion, in document 01's order: kind 4 (SME) and kind 5 (DME).
+#![tactic(auto)]
+
 ghost use Rattle.std.specs.Prelude.{◌≡◌, [], ◌∷◌, ◌<◌};
 ghost use Rattle.sets.specs.Mask.{bit};
 ghost use Rattle.rules.specs.Trade.{subject_group, role_group};

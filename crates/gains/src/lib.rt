@@ -1,5 +1,7 @@
 // What conflicts with an assignment: 29 and 30 of the hierarchy, 31 and 32 of what an owner would gain.
 // 31 and 32 share one search over owners.
+#![tactic(auto)]
+
 ghost use Rattle.std.specs.Prelude.{◌≡◌, [], ◌∷◌, ◌<◌};
 ghost use Rattle.sets.specs.Mask.{bit};
 ghost use Rattle.rules.specs.Trade.{reach};

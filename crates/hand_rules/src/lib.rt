@@ -1,6 +1,8 @@
 // The audit's rules 9 and 10, over the cells of the open orders. For rule 9 who holds what is found first, a set of tasks for each subject:
 // over all orders for SME, order by order for DME. For rule 10 the groups are, task by task, and each is looked at once, from its lowest
 // task in an order.
+#![tactic(auto)]
+
 ghost use Rattle.std.specs.Prelude.{◌≡◌, false, not, ℕ, ◌≤◌, ◌<◌, length};
 ghost use Rattle.sets.specs.Search.{all};
 ghost use Rattle.rules.specs.Book.{table_count};

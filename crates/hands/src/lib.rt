@@ -1,5 +1,7 @@
 // What an allocation asks of an order and a subject: the two hands of a task, what the subject holds, and whether it owns its active role now.
 // Whoever calls these has seen that the slice is full and that the numbers are below 64.
+#![tactic(auto)]
+
 ghost use Rattle.std.specs.Prelude.{◌≡◌, ◌<◌};
 ghost use Rattle.std.specs.Int.Bits.{bit_and};
 ghost use Rattle.sets.specs.Mask.{alone_if};

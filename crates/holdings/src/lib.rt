@@ -1,4 +1,6 @@
 // What conflicts with an allocation, in the documents' order: 33 and 34, by what the subject holds.
+#![tactic(auto)]
+
 ghost use Rattle.std.specs.Prelude.{◌≡◌, ◌<◌};
 ghost use Rattle.rules.specs.Book.{SME, DME};
 ghost use Rattle.rules.specs.Requests.{is_open};

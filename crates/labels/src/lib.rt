@@ -1,5 +1,7 @@
 // The panel's names of tasks, roles, persons and orders, in one table of bytes: a row for each thing, filled up with blanks. A row of
 // blanks is no name. The book knows nothing of names.
+#![tactic(auto)]
+
 ghost use Rattle.std.specs.Prelude.{◌≡◌, ◌+◌, ◌<◌, ◌≤◌, length};
 ghost use Rattle.decimal.specs.Decimal.{is_digit};
 ghost use Rattle.labels.specs.Names.{is_letter, is_name_byte, has_name_bytes, is_name, row_at, found, with_row, given, name_letter, name_length};

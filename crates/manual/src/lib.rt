@@ -1,4 +1,6 @@
 // The help: a line for each word of the panel, and more on each.
+#![tactic(auto)]
+
 mod near;
 
 pub use near::{row, suggest};

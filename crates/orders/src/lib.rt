@@ -1,5 +1,7 @@
 // Kinds 12, 13 and 14, on a book whose arguments fit: open an order, allocate a task in it, close it.
 // Each judges first, on the book as it stands, and writes in place only where the answer is 0.
+#![tactic(auto)]
+
 ghost use Rattle.std.specs.Prelude.{◌≡◌, ◌-◌, ◌≤◌, ◌<◌};
 ghost use Rattle.sets.specs.Search.{lowest};
 ghost use Rattle.rules.specs.Trade.{role, owned_tasks};

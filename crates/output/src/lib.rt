@@ -2,6 +2,7 @@
 //
 // The paper is ROOM bytes, all 0 at first. Its first four bytes are its own: how much is used (two of them), whether what is put on it
 // stands inside a JSON string, and whether a write has failed.
+#![tactic(auto)]
 
 #![tactic(auto)]
 

@@ -1,4 +1,6 @@
 // Owners, roles and subjects alike: who owns two tasks (25, 26), and who owns a task that is SME to one it would gain (31, 32).
+#![tactic(auto)]
+
 ghost use Rattle.std.specs.Prelude.{◌≡◌, ◌<◌};
 ghost use Rattle.sets.specs.Search.{lowest};
 ghost use Rattle.book.specs.Slice.{tables, Full, WellFormed};

@@ -1,5 +1,7 @@
 // Kinds 4 to 7: add SME, DME, RB or SB between tasks a and b; 18 to 21, in `back`, take it back. The four pair tables share each deed,
 // over the table.
+#![tactic(auto)]
+
 mod back;
 
 ghost use Rattle.std.specs.Prelude.{◌≡◌, ◌<◌};

@@ -9,6 +9,8 @@
 //
 // With --json each answer is an object on a line of its own. With --strict the status tells whether anything was refused. Of a line the
 // first 1,024 bytes are kept: a longer one is told as too long, unless a comment began before that.
+#![tactic(auto)]
+
 mod acting;
 
 ghost use Rattle.std.specs.Prelude.{◌≤◌, length};

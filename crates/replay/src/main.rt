@@ -7,6 +7,8 @@
 //
 // Where the input can't be read or the output can't be written, it stops and tells that on standard error and to the command
 // that runs it.
+#![tactic(auto)]
+
 mod doing;
 mod telling;
 

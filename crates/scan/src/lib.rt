@@ -1,4 +1,6 @@
 // Bad words, block by block: the rows of each table, the cells of each order, and the lowest word that may not stand where it stands.
+#![tactic(auto)]
+
 ghost use Rattle.std.specs.Prelude.{◌≡◌, ◌<◌};
 ghost use Rattle.sets.specs.Search.{lowest};
 ghost use Rattle.rules.specs.Book.{table_count, orders, names, bad_active, bad_cell, first_bad};

@@ -1,6 +1,8 @@
 // The searches of document 01's numbers: the lowest that passes, and x the lowest that has a partner, then y its lowest partner.
 // One pair search over any table serves 27, 28, 33 and 34; one search for the rows that meet a set, 25, 26, 31 to 33 and the audit; one
 // test that a set holds no pair, rules 7 to 9.
+#![tactic(auto)]
+
 ghost use Rattle.std.specs.Prelude.{◌≡◌, ◌<◌};
 ghost use Rattle.rules.specs.Book.{table_count};
 ghost use Rattle.sets.specs.Mask.{meet, alone_if, picked};

@@ -1,4 +1,6 @@
 // Sets of the numbers 0 to 63 as u64 masks: tested by shift and and, joined by or.
+#![tactic(auto)]
+
 ghost use Rattle.std.specs.Prelude.{◌≡◌, ◌^◌, ◌<◌};
 ghost use Rattle.sets.specs.Mask.{bit, with, without, within, meet};
 ghost use Rattle.sets.specs.Count.{count};

@@ -1,5 +1,7 @@
 // The book as tables that a person can read: the people, the roles, the tasks, and the hands of each open order; and all about one thing.
 // What stands at a place of a table is always a set of things of one sort, so one function writes it and one says how wide it is.
+#![tactic(auto)]
+
 mod about;
 mod entries;
 mod tables;

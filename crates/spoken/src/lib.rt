@@ -1,5 +1,7 @@
 // What the panel says: the sentence of each answer, of the audit's finding, of a line that is no request, of a name that was given, and
 // the help; as plain lines, or as JSON. A thing is told by its number and its name.
+#![tactic(auto)]
+
 mod accepted;
 mod conflict;
 mod faulty;

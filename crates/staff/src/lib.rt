@@ -1,4 +1,6 @@
 // Kinds 8, 9 and 10: a task for a role, a junior for a role, a role for a subject. Number a joins row b of a table.
+#![tactic(auto)]
+
 ghost use Rattle.std.specs.Prelude.{◌≡◌, ◌<◌};
 ghost use Rattle.rules.specs.Book.{table_count};
 ghost use Rattle.rules.specs.Requests.{assign};

@@ -7,6 +7,8 @@
 //
 // The fields are parted by one space each; numbers are decimal and below 2^64. specs/Stream.antt says it as a definition that computes,
 // and `read` is proved to give what that gives.
+#![tactic(auto)]
+
 ghost use Rattle.std.specs.Prelude.{◌≡◌, ◌≤◌, length};
 ghost use Rattle.stream.specs.Stream.{fields_past, new_book, set_word, request, ended, named, command_of, Ends, Starts};
 ghost use Rattle.stream.specs.declared.Command.TheVariants.{Audit};

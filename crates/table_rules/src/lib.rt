@@ -1,4 +1,6 @@
 // The audit's rules 1 to 8, over the tables, each of one number: a task, a role or a subject.
+#![tactic(auto)]
+
 ghost use Rattle.std.specs.Prelude.{◌≡◌, not, ◌<◌};
 ghost use Rattle.sets.specs.Mask.{meet};
 ghost use Rattle.rules.specs.Book.{table_count};

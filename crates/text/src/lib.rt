@@ -1,4 +1,6 @@
 // Rows of fixed width that each hold one word, filled up with blanks, and the search for a word among them.
+#![tactic(auto)]
+
 ghost use Rattle.std.specs.Prelude.{◌≡◌, ◌+◌, ◌*◌, ◌<◌};
 ghost use Rattle.text.specs.Rows.{letter_at, same_letters, is_row, find_row};
 

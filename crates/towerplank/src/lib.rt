@@ -1,5 +1,7 @@
 // The static library for a controller in C: a request and the audit on lent words, with the answer in four lent words.
 // include/towerplank.h declares both. Neither entry asks anything of its caller's numbers.
+#![tactic(auto)]
+
 ghost use Rattle.std.specs.Prelude.{◌≡◌};
 ghost use Rattle.desk.specs.Guarantee.{ask};
 ghost use Rattle.towerplank.specs.Told.{listed, Told, ToldAudit};

@@ -1,5 +1,7 @@
 // Document 01, "Words of the trade", on a lent slice: reach, owns, the two groups.
 // One closure over the rows of two tables serves them all; a single table is mixed with itself.
+#![tactic(auto)]
+
 ghost use Rattle.std.specs.Prelude.{◌≡◌, ℕ, ◌<◌, get_or};
 ghost use Rattle.rules.specs.Book.{table_count, SB, RB};
 ghost use Rattle.sets.specs.Mask.{joined};

@@ -4,6 +4,8 @@
 //     request  a kind, by its number or its word, then the arguments that it uses, in the order a, b, c of document 01
 //
 // Words are parted by spaces, tabs and carriage returns; a # begins a comment, to the end of the line.
+#![tactic(auto)]
+
 mod arguments;
 mod words;
 

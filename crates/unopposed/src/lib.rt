@@ -1,5 +1,7 @@
 // Kinds that nothing conflicts with: define a task, a role or a subject (1 to 3), activate a role (11),
 // take back what 8, 9 and 10 added (15 to 17).
+#![tactic(auto)]
+
 ghost use Rattle.std.specs.Prelude.{◌<◌};
 ghost use Rattle.rules.specs.Book.{table_count};
 ghost use Rattle.rules.specs.Requests.{define, activate, take_back};

@@ -1,4 +1,6 @@
 // The words of the panel, one to a row, and the kinds of request that they name.
+#![tactic(auto)]
+
 ghost use Rattle.std.specs.Prelude.{◌≡◌};
 ghost use Rattle.vocabulary.specs.Vocabulary.{words, rows_of, row_for, word_letter, kind_of};
 
