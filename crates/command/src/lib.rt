@@ -2,8 +2,6 @@
 // status of its own, so it puts a digit on descriptor 3, and tools/run-program ends with that.
 #![tactic(auto)]
 
-#![tactic(auto)]
-
 use std::env::{Env, FillError};
 
 // The longest option.

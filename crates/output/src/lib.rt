@@ -4,8 +4,6 @@
 // stands inside a JSON string, and whether a write has failed.
 #![tactic(auto)]
 
-#![tactic(auto)]
-
 ghost use Rattle.std.specs.Prelude.{◌≤◌, ◌<◌, length};
 
 // How large a paper is.
