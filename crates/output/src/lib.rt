@@ -9,6 +9,9 @@ ghost use Rattle.std.specs.Prelude.{◌≤◌, ◌<◌, length};
 // How large a paper is.
 pub const ROOM: usize = 4096;
 
+// The descriptor of standard output.
+const OUTPUT: i32 = 1;
+
 // Where the text begins.
 const START: usize = 4;
 
@@ -57,7 +60,7 @@ pub fn has_failed(paper: &[u8]) -> bool {
 // Writes the text up to `to`. After a write that failed nothing is written any more.
 fn write_to(paper: &mut [u8], to: usize) {
     if START <= to && to <= paper.len() && !has_failed(paper) {
-        if !io::write_all(libc::STDOUT_FILENO, &paper[START..to]) {
+        if !io::write_all(OUTPUT, &paper[START..to]) {
             set(paper, FAILED, 1);
         }
     }

@@ -16,6 +16,7 @@ ghost use Rattle.stream.specs.Stream.{command_of};
 ghost use Rattle.replay.specs.Obeyed.{Carried};
 
 use doing::Outcome;
+use std::io::Read;
 
 // Carries out what a line says and tells of it; `before` is the book as it was before. It answers how long the book is then.
 fn carry_out(
@@ -81,12 +82,19 @@ fn conclude(paper: &[u8], unread: bool) {
 }
 
 // Plays the whole stream, as far as it can be read and told.
-fn play(book: &mut [u64], before: &mut [u64], paper: &mut [u8], piece: &mut [u8], text: &mut [u8]) {
+fn play(
+    source: &mut impl Read,
+    book: &mut [u64],
+    before: &mut [u64],
+    paper: &mut [u8],
+    piece: &mut [u8],
+    text: &mut [u8],
+) {
     let mut length: usize = 0;
     let mut r = input::start();
     let mut turns: u64 = 18446744073709551615;
     while turns > 0 && r.more && !output::has_failed(paper) {
-        r = input::next(piece, text, r);
+        r = input::next(source, piece, text, r);
         length = serve(book, before, paper, text, r, length);
         turns -= 1;
     }
@@ -94,11 +102,12 @@ fn play(book: &mut [u64], before: &mut [u64], paper: &mut [u8], piece: &mut [u8]
     conclude(paper, r.failed);
 }
 
-fn main() {
+fn main(rt: HostRuntime) {
+    let mut source = rt.stdin();
     let mut book = [0u64; stream::LONGEST];
     let mut before = [0u64; stream::LONGEST];
     let mut paper = [0u8; output::ROOM];
     let mut piece = [0u8; 4096];
     let mut text = [0u8; 256];
-    play(&mut book, &mut before, &mut paper, &mut piece, &mut text);
+    play(&mut source, &mut book, &mut before, &mut paper, &mut piece, &mut text);
 }
