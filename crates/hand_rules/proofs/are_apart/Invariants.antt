@@ -12,7 +12,7 @@ use Rattle.hand_rules.proofs.are_apart.Given as goal
 abbrev pub invariant-loop-order : goal.invariant-loop-order
 invariant-loop-order l =
     (l.order ≤ 64) × (all l.order (dme_apart_in (tables l.book)) ≡ true)
-    × (length l.initial.order ≡ 64) × ((k : ℕ) → k < 64 → words l.initial.order k ≡ held_below (tables l.book) l.order k)
+    × (length l.anywhere ≡ 64) × ((k : ℕ) → k < 64 → words l.anywhere k ≡ held_below (tables l.book) l.order k)
 
 abbrev pub decreases-loop-order : goal.decreases-loop-order
 decreases-loop-order l = 64 - l.order
