@@ -47,7 +47,7 @@ unfolding dme_apart
 returns-then-not-is_dme_apart_in c =
     let d = tables c.args.book.now in
     let l = c.loop-order in
-    let fails = all_fails (dme_apart_in d) {i = l.order} 64 (omega arith) (sym c.is_dme_apart_in.ensures.0 ∙ not-true _ c.if-not-is_dme_apart_in.true) in
+    let fails = all_fails (dme_apart_in d) {i = l.order} 64 (omega arith) (sym c.is_dme_apart_in.ensures.0 ∙ c.if-not-is_dme_apart_in.true) in
     sym (and_fails_r (sme_apart d) _ fails) ∙ apart_kept d
 
 pub loop-order-preserved : goal.loop-order-preserved
@@ -58,7 +58,7 @@ loop-order-preserved c =
     let l = c.loop-order in
     let told = c.is_dme_apart_in.ensures in (
       omega arith,
-      all_on (dme_apart_in d) l.invariant.1 (sym told.0 ∙ not-false _ c.if-not-is_dme_apart_in.false),
+      all_on (dme_apart_in d) l.invariant.1 (sym told.0 ∙ c.if-not-is_dme_apart_in.false),
       told.1.0,
       λ k h.
           told.1.1 k h ∙ ap₂ bit_or (l.invariant.3 k h) (sym (held_open d sized l.order k h)) ∙ anywhere_on (held_in d k) l.order (omega arith),
