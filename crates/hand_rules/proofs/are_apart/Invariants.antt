@@ -2,12 +2,17 @@
 -- that it holds, and SME is asked of it.
 use mathlib.Core.Path.{◌≡◌}
 use mathlib.Core.Bool.{true}
-use Prim.Native.Nat.{ℕ, ◌-◌, ◌≤◌, ◌<◌}
+use Prim.Native.Nat.{ℕ, ◌-◌, ◌≤◌, ◌<◌, ◌^◌}
 use lib.ListN.{length}
 use Rattle.sets.specs.Search.{all}
 use Rattle.book.specs.Slice.{words, tables}
 use Rattle.hand_rules.specs.Hands.{dme_apart_in}
+use Rattle.sets.specs.Mask.{joined}
+use Rattle.rules.specs.Book.{Book}
 use Rattle.hand_rules.proofs.are_apart.Given as goal
+
+abbrev pub held_below : Book → ℕ → ℕ → ℕ
+held_below d p k = joined p (held_in d k) (2 ^ 64 - 1)
 
 abbrev pub invariant-loop-order : goal.invariant-loop-order
 invariant-loop-order l =

@@ -10,11 +10,8 @@ use Rattle.rules.specs.Audit.{pair_free}
 use Rattle.book.specs.Slice.{words, tables}
 use Rattle.hand_rules.proofs.ApartLaws.{free_none}
 use borrow.Author.Rules.{rules}
+use Rattle.hand_rules.proofs.are_free.Invariants.{asked}
 use Rattle.hand_rules.proofs.are_free.Goals as goal
-
--- what is asked of subject k
-abbrev asked : (ℕ → ℕ) → List ℕ → ℕ → Bool
-asked rows held k = pair_free rows (words held k)
 
 pub loop-left-init : goal.loop-left-init
 loop-left-init c =

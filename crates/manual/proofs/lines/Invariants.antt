@@ -5,7 +5,7 @@ use lib.ListN.{length}
 use Rattle.manual.proofs.lines.Given as goal
 
 abbrev pub invariant-loop-row : goal.invariant-loop-row
-invariant-loop-row l = length l.paper ≡ length l.from
+invariant-loop-row l = length l.paper ≡ length l.initial.paper
 
 abbrev pub decreases-loop-row : goal.decreases-loop-row
-decreases-loop-row l = l.initial.paper - l.row
+decreases-loop-row l = l.end - l.row

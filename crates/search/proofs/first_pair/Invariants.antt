@@ -11,7 +11,7 @@ use Rattle.search.specs.declared.Found.TheVariants.{Nothing}
 use Rattle.search.proofs.first_pair.Given as goal
 
 abbrev pub invariant-loop-y : goal.invariant-loop-y
-invariant-loop-y l = (l.y ≡ lowest (bit l.initial.found)) × (l.found ≡ Nothing)
+invariant-loop-y l = (l.y ≡ lowest (bit l.partners)) × (l.found ≡ Nothing)
 
 abbrev pub decreases-loop-y : goal.decreases-loop-y
 decreases-loop-y l = 64 - l.y

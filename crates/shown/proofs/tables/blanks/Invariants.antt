@@ -5,7 +5,7 @@ use lib.ListN.{length}
 use Rattle.shown.proofs.tables.blanks.Given as goal
 
 abbrev pub invariant-loop-n : goal.invariant-loop-n
-invariant-loop-n l = (l.wide ≤ l.n) × (length l.paper ≡ length l.used)
+invariant-loop-n l = (l.used ≤ l.n) × (length l.paper ≡ length l.initial.paper)
 
 abbrev pub decreases-loop-n : goal.decreases-loop-n
-decreases-loop-n l = l.initial.paper - l.n
+decreases-loop-n l = l.wide - l.n

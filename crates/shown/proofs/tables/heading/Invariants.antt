@@ -5,7 +5,7 @@ use lib.ListN.{length}
 use Rattle.shown.proofs.tables.heading.Given as goal
 
 abbrev pub invariant-loop-i : goal.invariant-loop-i
-invariant-loop-i l = (l.i ≤ l.initial.paper) × (length l.paper ≡ length l.table)
+invariant-loop-i l = (l.i ≤ l.end) × (length l.paper ≡ length l.initial.paper)
 
 abbrev pub decreases-loop-i : goal.decreases-loop-i
-decreases-loop-i l = l.initial.paper - l.i
+decreases-loop-i l = l.end - l.i

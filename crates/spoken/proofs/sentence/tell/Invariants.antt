@@ -5,7 +5,7 @@ use lib.ListN.{length}
 use Rattle.spoken.proofs.sentence.tell.Given as goal
 
 abbrev pub invariant-loop-i : goal.invariant-loop-i
-invariant-loop-i l = length l.paper ≡ length l.names
+invariant-loop-i l = length l.paper ≡ length l.initial.paper
 
 abbrev pub decreases-loop-i : goal.decreases-loop-i
-decreases-loop-i l = length l.v - l.i
+decreases-loop-i l = length l.text - l.i
