@@ -22,7 +22,7 @@ use Rattle.rules.proofs.Exactly.{Exactly, itself, exactly_same, exactly_as, exac
 use Rattle.rules.proofs.Exactly.{exactly_all, exactly_both, exactly_meet, Unless, unless_found, unless_as, unless_not}
 use Rattle.rules.proofs.NumberLaws.{given_out, given_in}
 use Rattle.rules.proofs.TradeLaws.{Shows, rows_show, step_from, step_to, subject_group_lem, role_group_lem, reach_shows, owner_shows, role_lt, subject_lt}
-use Rattle.rules.proofs.HeldLaws.{Holds, held_shows, HoldsAnywhere, anywhere_shows, open_order, hand_lt}
+use Rattle.rules.proofs.HeldLaws.{Holds, held_shows, HoldsAnywhere, anywhere_shows, open_order_lem, hand_lt}
 use Rattle.rules.proofs.WordLaws.{well_formed}
 
 -- A test of all numbers 0 to 63 says it of each.
@@ -134,7 +134,7 @@ module _ (d : Book) (s : Sized d) where
           meets : (c : ℕ) → subject_in (d.cell p u) ≡ suc c → Apart c → Excludes (d.row SME) (d.row DME) p q u v → ⊥
           meets c mine free (inl y) = free.0 u v y (p, (i, mine)) (q, (j, sym e ∙ mine))
           meets c mine free (inr (r, y)) =
-              free.1 p (step_from (s.rows orders) p u i) (open_order d p u i) u v y (i, mine) (subst (λ (z : ℕ). Holds d z c v) (sym r) (j, sym e ∙ mine))
+              free.1 p (step_from (s.rows orders) p u i) (open_order_lem d p u i) u v y (i, mine) (subst (λ (z : ℕ). Holds d z c v) (sym r) (j, sym e ∙ mine))
 
   -- Rule 10, of the subject groups and the role groups.
   hands_together_lem : Always (λ u. in_orders (hands_together d (subject_group d u) (role_group d u)) d u) (Keeps d 10)

@@ -1,0 +1,18 @@
+-- A test of all orders for DME; after the orders below one each subject is noted with what it holds in these, joined. At the end that is all
+-- that it holds, and SME is asked of it.
+use mathlib.Core.Path.{◌≡◌}
+use mathlib.Core.Bool.{true}
+use Prim.Native.Nat.{ℕ, ◌-◌, ◌≤◌, ◌<◌}
+use lib.ListN.{length}
+use Rattle.sets.specs.Search.{all}
+use Rattle.book.specs.Slice.{words, tables}
+use Rattle.hand_rules.specs.Hands.{dme_apart_in}
+use Rattle.hand_rules.proofs.are_apart.Given as goal
+
+abbrev pub invariant-loop-order : goal.invariant-loop-order
+invariant-loop-order l =
+    (l.order ≤ 64) × (all l.order (dme_apart_in (tables l.book)) ≡ true)
+    × (length l.anywhere ≡ 64) × ((k : ℕ) → k < 64 → words l.anywhere k ≡ held_below (tables l.book) l.order k)
+
+abbrev pub decreases-loop-order : goal.decreases-loop-order
+decreases-loop-order l = 64 - l.order

@@ -1,0 +1,11 @@
+-- The group, cut to the order's tasks.
+use lib.Bits.{bit_and}
+use Rattle.rules.specs.Requests.{subject_hand}
+use Rattle.hands.proofs.subject_hand.Goals as goal
+
+pub returns : goal.returns
+unfolding subject_hand
+returns c =
+    let group = c.subject_group.ensures in
+    let tasks = c.row.ensures in
+    (λ i. bit_and (group i) (tasks i))

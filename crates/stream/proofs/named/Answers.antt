@@ -1,0 +1,24 @@
+-- The arm taken says which name it is.
+use mathlib.Core.Path.{sym}
+use Rattle.stream.specs.Stream.{named}
+use Rattle.stream.proofs.StreamLaws.{no_name}
+use Rattle.stream.proofs.named.Goals as goal
+
+pub returns-in-110 : goal.returns-in-110
+unfolding named
+returns-in-110 c = rw c.in-110.is c.new_book.ensures
+
+pub returns-in-119 : goal.returns-in-119
+unfolding named
+returns-in-119 c = rw c.in-119.is c.set_word.ensures
+
+pub returns-in-114 : goal.returns-in-114
+unfolding named
+returns-in-114 c = rw c.in-114.is c.request.ensures
+
+pub returns-in-97 : goal.returns-in-97
+unfolding named
+returns-in-97 c = rw c.in-97.is c.audit.ensures
+
+pub returns-in_default : goal.returns-in_default
+returns-in_default c = let r = c.in_default.in_default-own.rest in sym (no_name _ _ _ r.0.0.0.1 r.0.0.1 r.0.1 r.1)

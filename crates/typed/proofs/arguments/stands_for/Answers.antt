@@ -1,0 +1,10 @@
+-- A name of the sort, or a number.
+use mathlib.Core.Path.{◌∙◌}
+use Rattle.typed.proofs.ArgumentLaws.{by_name, by_number_lem}
+use Rattle.typed.proofs.arguments.stands_for.Goals as goal
+
+pub returns-then-sort-is_name : goal.returns-then-sort-is_name
+returns-then-sort-is_name c = c.called.ensures ∙ by_name _ _ _ _ c.is_name.ensures c.if-sort-is_name.true
+
+pub returns : goal.returns
+returns c = c.counted.ensures ∙ by_number_lem _ _ _ _ c.is_name.ensures c.if-sort-is_name.false
