@@ -18,6 +18,9 @@ pub const REFUSED: u8 = 1;
 // Reading or writing failed.
 pub const BROKEN: u8 = 3;
 
+// The status of a program that ends since the reader of its output has closed it, as the signal of that would end it.
+pub const CLOSED: u8 = 141;
+
 // Whether two texts are the same.
 fn is_same(left: &[u8], right: &[u8]) -> bool {
     if left.len() != right.len() {

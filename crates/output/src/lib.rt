@@ -6,6 +6,8 @@
 
 ghost use Rattle.std.specs.Prelude.{◌≤◌, ◌<◌, length};
 
+use std::io::{ErrorKind, Print};
+
 // How large a paper is.
 pub const ROOM: usize = 4096;
 
@@ -55,6 +57,17 @@ fn set_end(paper: &mut [u8], to: usize) {
 // Whether a write has failed.
 pub fn has_failed(paper: &[u8]) -> bool {
     is_set(paper, FAILED)
+}
+
+// Whether a write has failed since the reader of the output has closed it: one more write then fails for that reason.
+pub fn is_closed(paper: &[u8], system: &impl Print) -> bool {
+    if !has_failed(paper) {
+        return false;
+    }
+    match system.write_some(b"\n") {
+        Ok(_) => false,
+        Err(error) => error.kind() == ErrorKind::BrokenPipe,
+    }
 }
 
 // Writes the text up to `to`. After a write that failed nothing is written any more.

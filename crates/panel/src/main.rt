@@ -19,6 +19,7 @@ use acting::Acted;
 use spoken::How;
 use std::env::Env;
 use std::io::{IsTerminal, Read};
+use std::process::ExitCode;
 use typed::Line;
 
 // What the panel was asked for, and whether somebody sits before it.
@@ -315,15 +316,7 @@ fn turn(
         options.json,
         state.wrong,
     );
-    let reading = next_line(
-        source,
-        paper,
-        piece,
-        text,
-        r,
-        went.over,
-        options.terminal,
-    );
+    let reading = next_line(source, paper, piece, text, r, went.over, options.terminal);
     State {
         reading,
         wrong: went.wrong,
@@ -385,8 +378,6 @@ fn finish(paper: &mut [u8], book: &[u64], wrong: bool, over: bool, options: Opti
     );
     output::flush(paper);
     if output::has_failed(paper) {
-        command::complain(b"panel: the output can't be written");
-        command::end(command::BROKEN);
         return;
     }
     tell_command(options.strict, wrong, finding);
@@ -400,7 +391,36 @@ fn asked_for(system: &impl Env, terminal: bool) -> Options {
     }
 }
 
-fn main(rt: HostRuntime) {
+// Tells that reading or writing failed, on standard error and to the command.
+fn break_off(text: &[u8]) {
+    command::complain(text);
+    command::end(command::BROKEN);
+}
+
+// The end of the shift: the audit, or what failed. Where the reader of the output has closed it, nothing is told.
+fn conclude(
+    system: &impl Print,
+    paper: &mut [u8],
+    book: &[u64],
+    state: State,
+    options: Options,
+) -> ExitCode {
+    let reading = state.reading;
+    if !reading.failed {
+        finish(paper, book, state.wrong, state.over, options);
+    }
+    if output::is_closed(paper, system) {
+        return ExitCode::from(command::CLOSED);
+    }
+    if reading.failed {
+        break_off(b"panel: the input can't be read");
+    } else if output::has_failed(paper) {
+        break_off(b"panel: the output can't be written");
+    }
+    ExitCode::SUCCESS
+}
+
+fn main(rt: HostRuntime) -> ExitCode {
     let mut source = rt.stdin();
     let options = asked_for(&rt, source.is_terminal() & rt.stdout().is_terminal());
     let mut book = [0u64; book::WORDS];
@@ -411,13 +431,14 @@ fn main(rt: HostRuntime) {
     let mut text = [0u8; typed::ROOM];
     welcome(&mut paper, options.terminal);
     let state = shift(
-        &mut source, &mut paper, &mut names, &mut book, &mut trial, &mut piece, &mut text, options,
+        &mut source,
+        &mut paper,
+        &mut names,
+        &mut book,
+        &mut trial,
+        &mut piece,
+        &mut text,
+        options,
     );
-    let reading = state.reading;
-    if reading.failed {
-        command::complain(b"panel: the input can't be read");
-        command::end(command::BROKEN);
-        return;
-    }
-    finish(&mut paper, &book, state.wrong, state.over, options);
+    conclude(&rt, &mut paper, &book, state, options)
 }
