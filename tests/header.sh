@@ -14,7 +14,7 @@ room=$(mktemp -d)
 # ---- it compiles
 
 strict='-Wall -Wextra -Wpedantic -Wconversion -Wsign-conversion -Werror'
-kit_clang=$(dirname "$(dirname "$(rt doc)")")/on/$(uname -m)/toolchain/bin/clang
+kit_clang=$(dirname "$(rt doc)")/toolchain/bin/clang
 
 takes_header() { # LANGUAGE STANDARDS COMPILER..: hosted, and freestanding
     language=$1 standards=$2
