@@ -159,14 +159,14 @@ take-sb 0 2
 SHIFT
 
 panel_words() {
-    [ -x target/bin/panel ] || rt check panel >"$room/told" 2>&1 || return 1
+    built panel
     awk 'FNR == NR && $1 == "kind" { word = tolower($3); gsub("_", "-", word); number[word] = $2; next }
         FNR == NR { next }
         !($1 in number) { print "no kind of the header: " $1 >"/dev/stderr"; exit 1 }
         { left[$1] = 1; $1 = number[$1]; print }
         END { for (word in number) if (!(word in left)) { print "not played: " word >"/dev/stderr"; exit 1 } }' "$room/lists" "$room/words" >"$room/numbers" &&
-        tools/run-program target/bin/panel <"$room/words" >"$room/by-word" &&
-        tools/run-program target/bin/panel <"$room/numbers" >"$room/by-number" &&
+        tools/run-program crates/panel/out/panel <"$room/words" >"$room/by-word" &&
+        tools/run-program crates/panel/out/panel <"$room/numbers" >"$room/by-number" &&
         [ "$(grep -c '^[0-9]*: 0 0 0 0  accepted' "$room/by-word")" -eq "$(wc -l <"$room/words")" ] &&
         diff "$room/by-word" "$room/by-number"
 }
