@@ -2,8 +2,13 @@
 // status of its own, so it puts a digit on descriptor 3, and tools/run-program ends with that.
 #![tactic(auto)]
 
+use std::env::{Env, FillError};
+
 // The longest option.
 const ROOM: usize = 64;
+
+// The descriptors of standard error and of what the command is told on.
+const ERRORS: i32 = 2;
 
 const TO_COMMAND: i32 = 3;
 
@@ -12,6 +17,9 @@ pub const REFUSED: u8 = 1;
 
 // Reading or writing failed.
 pub const BROKEN: u8 = 3;
+
+// The status of a program that ends since the reader of its output has closed it, as the signal of that would end it.
+pub const CLOSED: u8 = 141;
 
 // Whether two texts are the same.
 fn is_same(left: &[u8], right: &[u8]) -> bool {
@@ -28,22 +36,25 @@ fn is_same(left: &[u8], right: &[u8]) -> bool {
     true
 }
 
-// Whether argument i is the option.
-fn is_argument(i: usize, option: &[u8]) -> bool {
+// Whether argument i is the option, if there is such an argument. One that does not fit is taken as empty.
+fn is_argument(system: &impl Env, i: usize, option: &[u8]) -> Option<bool> {
     let mut room = [0u8; ROOM];
-    let got = os::arg(i, &mut room);
-    is_same(&room[..got], option)
+    let got = match system.arg(i, &mut room) {
+        Ok(got) => got,
+        Err(FillError::TooLong) => 0,
+        Err(FillError::NotPresent) => return None,
+    };
+    Some(is_same(&room[..got], option))
 }
 
 // Whether the program was started with the option.
-pub fn has_option(option: &[u8]) -> bool {
-    let count = os::arg_count();
-    let mut i: usize = 1;
-    while i < count {
-        if is_argument(i, option) {
-            return true;
+pub fn has_option(system: &impl Env, option: &[u8]) -> bool {
+    for i in 1..usize::MAX {
+        match is_argument(system, i, option) {
+            Some(true) => return true,
+            Some(false) => {}
+            None => return false,
         }
-        i += 1;
     }
     false
 }
@@ -56,6 +67,6 @@ pub fn end(status: u8) {
 
 // A line on standard error.
 pub fn complain(text: &[u8]) {
-    io::write_all(libc::STDERR_FILENO, text);
-    io::write_all(libc::STDERR_FILENO, b"\n");
+    io::write_all(ERRORS, text);
+    io::write_all(ERRORS, b"\n");
 }

@@ -79,7 +79,7 @@ run_on_words w sized (s ∷ ss) e =
     let q = and_out (same told s.answer) (stand after s.words) p.0 in (
       same_out told s.answer q.0,
       stand_out after _ s.words step.written q.1,
-      run_on_words _ step.sized ss (subst (λ (d : Book). goes d ss ≡ true) (sym step.book) p.1),
+      run_on_words (words_after told w s.request) step.sized ss (subst (λ (d : Book). goes d ss ≡ true) (sym step.book) p.1),
     )
 
 all_on_words : (rs : List Run) → all_go rs ≡ true → AllGo rs

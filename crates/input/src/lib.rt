@@ -8,8 +8,10 @@
 ghost use Rattle.std.specs.Prelude.{◌≡◌, ◌≤◌, length};
 ghost use Rattle.input.specs.Lines.{unread, NoLine, Along, Taken};
 
+use std::io::Read;
+
 // Where the reading stands.
-#[derive(Drop)]
+#[derive(Clone, Copy)]
 pub struct Reading {
     // What is still to be looked at of the piece: from `at` to before `end`.
     at: usize,
@@ -95,14 +97,15 @@ fn take(text: &mut [u8], r: Reading, next: usize, byte: u8) -> Reading
 
 // Reads the next piece. Where nothing comes any more, what is held is the last line, if anything is; where reading fails
 // there is none.
-fn refill(piece: &mut [u8], r: Reading) -> Reading
+fn refill(source: &mut impl Read, piece: &mut [u8], r: Reading) -> Reading
     ensures { (result.held ≤ r.held) × NoLine result }
 {
     let held = r.held;
     let whole = r.whole;
-    let got = libc::read(libc::STDIN_FILENO, piece);
-    let failed = got < 0;
-    let end = io::count(got, piece);
+    let (end, failed) = match source.read(piece) {
+        Ok(got) => (got, false),
+        Err(_) => (0, true),
+    };
     if end == 0 {
         return Reading {
             at: 0,
@@ -128,7 +131,7 @@ fn refill(piece: &mut [u8], r: Reading) -> Reading
 }
 
 // One byte further, or one piece.
-fn step(piece: &mut [u8], text: &mut [u8], r: Reading) -> Reading
+fn step(source: &mut impl Read, piece: &mut [u8], text: &mut [u8], r: Reading) -> Reading
     requires { r.held ≤ length text.old }
     ensures { (result.held ≤ length text.new) × NoLine result }
 {
@@ -136,17 +139,17 @@ fn step(piece: &mut [u8], text: &mut [u8], r: Reading) -> Reading
     if at < r.end && at < piece.len() {
         return take(text, r, at + 1, piece[at]);
     }
-    refill(piece, r)
+    refill(source, piece, r)
 }
 
 // The next line: the first `held` bytes of text.
-pub fn next(piece: &mut [u8], text: &mut [u8], from: Reading) -> Reading
+pub fn next(source: &mut impl Read, piece: &mut [u8], text: &mut [u8], from: Reading) -> Reading
     ensures { (result.held ≤ length text.new) × NoLine result }
 {
     let mut r = opened(from);
     let mut turns: u64 = 18446744073709551615;
     while turns > 0 && r.going {
-        r = step(piece, text, r);
+        r = step(source, piece, text, r);
         turns -= 1;
     }
     r

@@ -38,9 +38,9 @@ fn line(paper: &mut [u8], row: u64) {
           |   5  dme TASK TASK                   nobody may do both in one order; also exclude-dynamic\n\
           |   6  rb TASK TASK                    in one order both are done in one role; also bind-role\n\
           |   7  sb TASK TASK                    in one order both are done by one person; also bind-subject\n\
-          |   8  assign_task TASK ROLE           the role gets the task\n\
+          |   8  assign-task TASK ROLE           the role gets the task\n\
           |   9  junior JUNIOR SENIOR            the senior role owns the junior role's tasks too\n\
-          |  10  assign_role ROLE PERSON         the person gets the role\n\
+          |  10  assign-role ROLE PERSON         the person gets the role\n\
           |  11  activate ROLE PERSON            the person acts in the role from now on\n\
           |  12  open ORDER tasks TASK TASK ..   open an order with these tasks; also open ORDER MASK\n\
           |  13  allocate TASK ORDER PERSON      the person does the task in the order\n\
@@ -104,10 +104,10 @@ fn more(paper: &mut [u8], row: u64) {
           Example: rb 6 7\n\
           |Within an order both tasks are done by the same person in the same role (subject binding). No order may be open; take-sb takes it \
           back.\nExample: sb 2 3\n\
-          |The role owns the task from now on, and so does each role above it and each person who has one of them.\nExample: assign_task 0 0\n\
+          |The role owns the task from now on, and so does each role above it and each person who has one of them.\nExample: assign-task 0 0\n\
           |The first role is put below the second, which owns all that the first owns. Roles may not run in a circle.\nExample: junior 2 6\n\
           |The person owns the role, the roles below it and their tasks. To act in one of these is a request of its own: activate.\n\
-          Example: assign_role 0 0\n\
+          Example: assign-role 0 0\n\
           |The person acts in the role, one that they own, until they act in another. What they are given to do is done in that role.\n\
           Example: activate 5 6\n\
           |The order gets the tasks named, one or more, each defined. A mask is the sum of 1 for task 0, 2 for task 1, 4 for task 2 and so \

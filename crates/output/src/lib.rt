@@ -6,8 +6,13 @@
 
 ghost use Rattle.std.specs.Prelude.{◌≤◌, ◌<◌, length};
 
+use std::io::{ErrorKind, Print};
+
 // How large a paper is.
 pub const ROOM: usize = 4096;
+
+// The descriptor of standard output.
+const OUTPUT: i32 = 1;
 
 // Where the text begins.
 const START: usize = 4;
@@ -54,10 +59,21 @@ pub fn has_failed(paper: &[u8]) -> bool {
     is_set(paper, FAILED)
 }
 
+// Whether a write has failed since the reader of the output has closed it: one more write then fails for that reason.
+pub fn is_closed(paper: &[u8], system: &impl Print) -> bool {
+    if !has_failed(paper) {
+        return false;
+    }
+    match system.write_some(b"\n") {
+        Ok(_) => false,
+        Err(error) => error.kind() == ErrorKind::BrokenPipe,
+    }
+}
+
 // Writes the text up to `to`. After a write that failed nothing is written any more.
 fn write_to(paper: &mut [u8], to: usize) {
     if START <= to && to <= paper.len() && !has_failed(paper) {
-        if !io::write_all(libc::STDOUT_FILENO, &paper[START..to]) {
+        if !io::write_all(OUTPUT, &paper[START..to]) {
             set(paper, FAILED, 1);
         }
     }

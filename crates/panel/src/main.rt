@@ -17,10 +17,13 @@ ghost use Rattle.std.specs.Prelude.{◌≤◌, length};
 
 use acting::Acted;
 use spoken::How;
+use std::env::Env;
+use std::io::{IsTerminal, Read};
+use std::process::ExitCode;
 use typed::Line;
 
 // What the panel was asked for, and whether somebody sits before it.
-#[derive(Drop)]
+#[derive(Clone, Copy)]
 struct Options {
     json: bool,
     strict: bool,
@@ -35,7 +38,7 @@ struct Went {
 }
 
 // Where a shift stands: what was read last, and how it went so far.
-#[derive(Drop)]
+#[derive(Clone, Copy)]
 struct State {
     reading: input::Reading,
     wrong: bool,
@@ -249,6 +252,7 @@ fn welcome(paper: &mut [u8], terminal: bool) {
 
 // Asks for the next line and reads it, unless the shift is over.
 fn next_line(
+    source: &mut impl Read,
     paper: &mut [u8],
     piece: &mut [u8],
     text: &mut [u8],
@@ -263,7 +267,7 @@ fn next_line(
         return r;
     }
     prompt(paper, terminal);
-    input::next(piece, text, r)
+    input::next(source, piece, text, r)
 }
 
 // The shift as it begins, with its first line read.
@@ -285,6 +289,7 @@ fn is_on(paper: &[u8], state: State) -> bool {
 
 // Serves the line that was read, and reads the next one.
 fn turn(
+    source: &mut impl Read,
     paper: &mut [u8],
     names: &mut [u8],
     book: &mut [u64],
@@ -311,7 +316,7 @@ fn turn(
         options.json,
         state.wrong,
     );
-    let reading = next_line(paper, piece, text, r, went.over, options.terminal);
+    let reading = next_line(source, paper, piece, text, r, went.over, options.terminal);
     State {
         reading,
         wrong: went.wrong,
@@ -321,6 +326,7 @@ fn turn(
 
 // The shift: every line is served, and the next one read. The number of the line bounds the loop.
 fn shift(
+    source: &mut impl Read,
     paper: &mut [u8],
     names: &mut [u8],
     book: &mut [u64],
@@ -330,11 +336,11 @@ fn shift(
     options: Options,
 ) -> State {
     prompt(paper, options.terminal);
-    let mut state = begun(input::next(piece, text, input::start()));
+    let mut state = begun(input::next(source, piece, text, input::start()));
     let mut number: u64 = 1;
     while number < 18446744073709551615 && is_on(paper, state) {
         state = turn(
-            paper, names, book, trial, piece, text, state, number, options,
+            source, paper, names, book, trial, piece, text, state, number, options,
         );
         number += 1;
     }
@@ -372,39 +378,67 @@ fn finish(paper: &mut [u8], book: &[u64], wrong: bool, over: bool, options: Opti
     );
     output::flush(paper);
     if output::has_failed(paper) {
-        command::complain(b"panel: the output can't be written");
-        command::end(command::BROKEN);
         return;
     }
     tell_command(options.strict, wrong, finding);
 }
 
-fn asked_for() -> Options {
+fn asked_for(system: &impl Env, terminal: bool) -> Options {
     Options {
-        json: command::has_option(b"--json"),
-        strict: command::has_option(b"--strict"),
-        terminal: (libc::isatty(libc::STDIN_FILENO) == 1)
-            & (libc::isatty(libc::STDOUT_FILENO) == 1),
+        json: command::has_option(system, b"--json"),
+        strict: command::has_option(system, b"--strict"),
+        terminal,
     }
 }
 
-fn main() {
-    let options = asked_for();
+// Tells that reading or writing failed, on standard error and to the command.
+fn break_off(text: &[u8]) {
+    command::complain(text);
+    command::end(command::BROKEN);
+}
+
+// The end of the shift: the audit, or what failed. Where the reader of the output has closed it, nothing is told.
+fn conclude(
+    system: &impl Print,
+    paper: &mut [u8],
+    book: &[u64],
+    state: State,
+    options: Options,
+) -> ExitCode {
+    let reading = state.reading;
+    if !reading.failed {
+        finish(paper, book, state.wrong, state.over, options);
+    }
+    if output::is_closed(paper, system) {
+        return ExitCode::from(command::CLOSED);
+    }
+    if reading.failed {
+        break_off(b"panel: the input can't be read");
+    } else if output::has_failed(paper) {
+        break_off(b"panel: the output can't be written");
+    }
+    ExitCode::SUCCESS
+}
+
+fn main(rt: HostRuntime) -> ExitCode {
+    let mut source = rt.stdin();
+    let options = asked_for(&rt, source.is_terminal() & rt.stdout().is_terminal());
     let mut book = [0u64; book::WORDS];
     let mut trial = [0u64; book::WORDS];
     let mut names = [b' '; labels::SIZE];
     let mut paper = [0u8; output::ROOM];
-    let mut piece = io::buffer();
+    let mut piece = [0u8; 4096];
     let mut text = [0u8; typed::ROOM];
     welcome(&mut paper, options.terminal);
     let state = shift(
-        &mut paper, &mut names, &mut book, &mut trial, &mut piece, &mut text, options,
+        &mut source,
+        &mut paper,
+        &mut names,
+        &mut book,
+        &mut trial,
+        &mut piece,
+        &mut text,
+        options,
     );
-    let reading = state.reading;
-    if reading.failed {
-        command::complain(b"panel: the input can't be read");
-        command::end(command::BROKEN);
-        return;
-    }
-    finish(&mut paper, &book, state.wrong, state.over, options);
+    conclude(&rt, &mut paper, &book, state, options)
 }

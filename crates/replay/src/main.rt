@@ -16,6 +16,8 @@ ghost use Rattle.stream.specs.Stream.{command_of};
 ghost use Rattle.replay.specs.Obeyed.{Carried};
 
 use doing::Outcome;
+use std::io::Read;
+use std::process::ExitCode;
 
 // Carries out what a line says and tells of it; `before` is the book as it was before. It answers how long the book is then.
 fn carry_out(
@@ -66,8 +68,11 @@ fn serve(
     length
 }
 
-// Tells how it went, where it did not go well.
-fn conclude(paper: &[u8], unread: bool) {
+// Tells how it went, where it did not go well. Where the reader of the output has closed it, nothing is told.
+fn conclude(system: &impl Print, paper: &[u8], unread: bool) -> ExitCode {
+    if output::is_closed(paper, system) {
+        return ExitCode::from(command::CLOSED);
+    }
     let unwritten = output::has_failed(paper);
     if unread {
         command::complain(b"replay: the input can't be read");
@@ -78,27 +83,44 @@ fn conclude(paper: &[u8], unread: bool) {
     if unread | unwritten {
         command::end(command::BROKEN);
     }
+    ExitCode::SUCCESS
 }
 
-// Plays the whole stream, as far as it can be read and told.
-fn play(book: &mut [u64], before: &mut [u64], paper: &mut [u8], piece: &mut [u8], text: &mut [u8]) {
+// Plays the whole stream, as far as it can be read and told. It answers whether reading failed.
+fn play(
+    source: &mut impl Read,
+    book: &mut [u64],
+    before: &mut [u64],
+    paper: &mut [u8],
+    piece: &mut [u8],
+    text: &mut [u8],
+) -> bool {
     let mut length: usize = 0;
     let mut r = input::start();
     let mut turns: u64 = 18446744073709551615;
     while turns > 0 && r.more && !output::has_failed(paper) {
-        r = input::next(piece, text, r);
+        r = input::next(source, piece, text, r);
         length = serve(book, before, paper, text, r, length);
         turns -= 1;
     }
     output::flush(paper);
-    conclude(paper, r.failed);
+    r.failed
 }
 
-fn main() {
+fn main(rt: HostRuntime) -> ExitCode {
+    let mut source = rt.stdin();
     let mut book = [0u64; stream::LONGEST];
     let mut before = [0u64; stream::LONGEST];
     let mut paper = [0u8; output::ROOM];
     let mut piece = [0u8; 4096];
     let mut text = [0u8; 256];
-    play(&mut book, &mut before, &mut paper, &mut piece, &mut text);
+    let unread = play(
+        &mut source,
+        &mut book,
+        &mut before,
+        &mut paper,
+        &mut piece,
+        &mut text,
+    );
+    conclude(&rt, &paper, unread)
 }

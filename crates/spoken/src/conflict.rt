@@ -140,7 +140,7 @@ fn instead(paper: &mut [u8], names: &[u8], n: u64, v: Facts) {
         paper,
         names,
         b"|assign elsewhere; another role or a person may be named next\
-          |assign elsewhere, or take from them each role that brings role %rb and give it to someone else (take-role, assign_role); \
+          |assign elsewhere, or take from them each role that brings role %rb and give it to someone else (take-role, assign-role); \
           another person may be named next\
           |choose someone else",
         either(v.kind == 10, 3, n),

@@ -33,7 +33,7 @@ fn rows() -> [u8; 512]
     *b"show            audit           help            quit            name            try             \
        exclude-static  exclude-dynamic bind-role       bind-subject    define-person   \
        define-task     define-role     define-subject  sme             dme             rb              sb              \
-       assign_task     junior          assign_role     activate        open            allocate        close           \
+       assign-task     junior          assign-role     activate        open            allocate        close           \
        take-task       take-junior     take-role       take-sme        take-dme        take-rb         take-sb         "
 }
 

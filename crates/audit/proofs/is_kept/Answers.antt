@@ -33,7 +33,7 @@ returns-then-not-is_kept_at c =
     let l = c.loop-left in
     let d = tables s.book.now in
     let sized = read_sized (words s.book.now) (λ i h. (c.type_inv.book i).fits) in
-    let told = rw (c.is_kept_at.ensures, c.lowest.ensures) at (not-true c.is_kept_at.result c.if-not-is_kept_at.true) in
+    let told = rw (c.is_kept_at.ensures, c.lowest.ensures) at (c.if-not-is_kept_at.true) in
     sym (seen_fails (kept_at d s.rule) (omega arith) l.invariant.0 told)
     ∙ tells_kept d sized (search rules) s.rule (omega arith) (keeps_exactly d sized (search rules) s.rule (omega arith))
 
@@ -47,7 +47,7 @@ loop-left-preserved c =
     let s = c.args in
     let l = c.loop-left in
     let some : 0 < l.left = omega arith in
-    let e = not-false c.is_kept_at.result c.if-not-is_kept_at.false in
+    let e = c.if-not-is_kept_at.false in
     let told = rw (c.is_kept_at.ensures, c.lowest.ensures) at e in (
       omega (arith, c.rest-left.ensures, rest_lt l.left some l.invariant.0),
       rw c.rest-left.ensures (seen_on (kept_at (tables s.book.now) s.rule) some l.invariant.0 l.invariant.1 told),

@@ -7,11 +7,8 @@ use Rattle.sets.proofs.SearchLaws.{search_on, search_at, search_out}
 use Rattle.rules.specs.Audit.{broken, first_broken}
 use Rattle.book.specs.Slice.{tables}
 use borrow.Author.Rules.{rules}
+use Rattle.audit.proofs.lowest_broken.Invariants.{Past}
 use Rattle.audit.proofs.lowest_broken.Goals as goal
-
--- the search is past 2, and 2 does not pass
-abbrev Past : (ℕ → Bool) → ℕ → Type 0
-Past f n = 2 < n → f 2 ≡ false
 
 past_on : (f : ℕ → Bool) (n : ℕ) → Past f n → f n ≡ false → Past f (n + 1)
 past_on f n past e l = go (dec_lt 2 n)

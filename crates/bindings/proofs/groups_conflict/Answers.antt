@@ -15,7 +15,7 @@ returns-then-not-is_accepted c =
     let of-b = c.subject_group-ys.ensures in
     let asked = sme_around d s.a s.b sized (omega arith) (omega arith) c.subject_group-xs.ensures of-b
     c.bound_with.ensures c.bound_with-2.ensures c.sme_between-sme.ensures in
-    sme_stands d s.a s.b asked (sym c.is_accepted.ensures ∙ not-true _ c.if-not-is_accepted.true)
+    sme_stands d s.a s.b asked (sym c.is_accepted.ensures ∙ c.if-not-is_accepted.true)
 
 pub returns : goal.returns
 returns c =
@@ -26,5 +26,5 @@ returns c =
     let asked = sme_around d s.a s.b sized (omega arith) (omega arith) c.subject_group-xs.ensures of-b
     c.bound_with.ensures c.bound_with-2.ensures
     c.sme_between-sme.ensures in
-    dme_next d s.a s.b asked (sym c.is_accepted.ensures ∙ not-false _ c.if-not-is_accepted.false)
+    dme_next d s.a s.b asked (sym c.is_accepted.ensures ∙ c.if-not-is_accepted.false)
     (dme_groups d s.a s.b c.subject_group-xs.ensures of-b c.dme_between.ensures)

@@ -5,7 +5,7 @@ use lib.ListN.{length}
 use Rattle.called.proofs.name.Given as goal
 
 abbrev pub invariant-loop-i : goal.invariant-loop-i
-invariant-loop-i l = (l.i ≤ l.n) × (length l.initial.i ≡ length l.initial.paper)
+invariant-loop-i l = (l.i ≤ l.end) × (length l.paper ≡ length l.initial.paper)
 
 abbrev pub decreases-loop-i : goal.decreases-loop-i
-decreases-loop-i l = l.n - l.i
+decreases-loop-i l = l.end - l.i

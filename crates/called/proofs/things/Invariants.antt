@@ -5,7 +5,7 @@ use lib.ListN.{length}
 use Rattle.called.proofs.things.Given as goal
 
 abbrev pub invariant-loop-n : goal.invariant-loop-n
-invariant-loop-n l = (l.n ≤ 64) × (length l.initial.n ≡ length l.initial.paper)
+invariant-loop-n l = (l.n ≤ 64) × (length l.paper ≡ length l.initial.paper)
 
 abbrev pub decreases-loop-n : goal.decreases-loop-n
 decreases-loop-n l = 64 - l.n

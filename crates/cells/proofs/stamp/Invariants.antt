@@ -7,7 +7,7 @@ use Rattle.cells.proofs.stamp.Given as goal
 
 abbrev pub invariant-loop-left : goal.invariant-loop-left
 invariant-loop-left l =
-    (l.left < 2 ^ 64) × Full l.initial.left × (stamped (tables l.initial.left) l.book l.left l.wide l.narrow l.e ≡ stamped (tables l.initial.book) l.book l.order l.wide l.narrow l.e)
+    (l.left < 2 ^ 64) × Full l.book × (stamped (tables l.book) l.order l.left l.narrow l.e l.subject ≡ stamped (tables l.initial.book) l.order l.wide l.narrow l.e l.subject)
 
 abbrev pub decreases-loop-left : goal.decreases-loop-left
 decreases-loop-left l = l.left

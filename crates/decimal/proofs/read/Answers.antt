@@ -12,19 +12,19 @@ loop-i-init c = (search rules, 0, sym (fits 0 (omega arith)), refl)
 pub returns-then-not-is_digit : goal.returns-then-not-is_digit
 returns-then-not-is_digit c =
     let l = c.loop-i in
-    sym (no_digit _ l.i _ (omega arith) c.wide-byte.ensures l.invariant.1 (sym c.is_digit.ensures ∙ not-true _ c.if-not-is_digit.true))
+    sym (no_digit _ l.i _ (omega arith) c.wide-byte.ensures l.invariant.1 (sym c.is_digit.ensures ∙ c.if-not-is_digit.true))
     ∙ l.invariant.3
 
 pub overflow_sub-byte : goal.overflow_sub-byte
-overflow_sub-byte c = (digit_range _ (sym c.is_digit.ensures ∙ not-false _ c.if-not-is_digit.false)).0
+overflow_sub-byte c = (digit_range _ (sym c.is_digit.ensures ∙ c.if-not-is_digit.false)).0
 
 pub put-front-requires : goal.put-front-requires
-put-front-requires c = omega (arith, digit_range _ (sym c.is_digit.ensures ∙ not-false _ c.if-not-is_digit.false))
+put-front-requires c = omega (arith, digit_range _ (sym c.is_digit.ensures ∙ c.if-not-is_digit.false))
 
 pub loop-i-preserved : goal.loop-i-preserved
 loop-i-preserved c =
     let l = c.loop-i in
-    let digit = sym c.is_digit.ensures ∙ not-false _ c.if-not-is_digit.false in (
+    let digit = sym c.is_digit.ensures ∙ c.if-not-is_digit.false in (
       search rules,
       _,
       c.put-front.ensures l.invariant.1 l.invariant.2,

@@ -20,11 +20,11 @@ returns-then-not-in_subject_group c =
     let s = c.args in
     dme_none (tables s.book.now) s.a s.b c.if-a-b.false
     (sym c.is_in_row.ensures ∙ c.if-is_in_row.false)
-    (sym c.in_subject_group.ensures ∙ not-true _ c.if-not-in_subject_group.true)
+    (sym c.in_subject_group.ensures ∙ c.if-not-in_subject_group.true)
 
 pub returns : goal.returns
 returns c =
     let s = c.args in
     dme_subject_group (tables s.book.now) s.a s.b c.if-a-b.false
     (sym c.is_in_row.ensures ∙ c.if-is_in_row.false)
-    (sym c.in_subject_group.ensures ∙ not-false _ c.if-not-in_subject_group.false)
+    (sym c.in_subject_group.ensures ∙ c.if-not-in_subject_group.false)

@@ -19,14 +19,12 @@ use Rattle.book.specs.Slice.{words, tables}
 use Rattle.hand_rules.specs.Hands.{sme_apart, dme_apart_in, dme_apart}
 use Rattle.hand_rules.proofs.ApartLaws.{anywhere_on, all_alike, nothing_anywhere, apart_kept}
 use borrow.Author.Rules.{rules}
+use Rattle.hand_rules.proofs.are_apart.Invariants.{held_below}
 use Rattle.hand_rules.proofs.are_apart.Goals as goal
 
 -- what subject k holds in order p, if it is open, and in the orders below p
 abbrev held_in : Book → ℕ → ℕ → ℕ
 held_in d k p = only (is_open d p) (held_by d p k)
-
-abbrev held_below : Book → ℕ → ℕ → ℕ
-held_below d p k = joined p (held_in d k) (2 ^ 64 - 1)
 
 -- Below 64 are all of them.
 all-orders : (d : Book) (p k : ℕ) → 64 ≤ p → p ≤ 64 → {v : ℕ} → v ≡ held_below d p k → v ≡ held_anywhere d k
@@ -47,7 +45,7 @@ unfolding dme_apart
 returns-then-not-is_dme_apart_in c =
     let d = tables c.args.book.now in
     let l = c.loop-order in
-    let fails = all_fails (dme_apart_in d) {i = l.order} 64 (omega arith) (sym c.is_dme_apart_in.ensures.0 ∙ not-true _ c.if-not-is_dme_apart_in.true) in
+    let fails = all_fails (dme_apart_in d) {i = l.order} 64 (omega arith) (sym c.is_dme_apart_in.ensures.0 ∙ c.if-not-is_dme_apart_in.true) in
     sym (and_fails_r (sme_apart d) _ fails) ∙ apart_kept d
 
 pub loop-order-preserved : goal.loop-order-preserved
@@ -58,7 +56,7 @@ loop-order-preserved c =
     let l = c.loop-order in
     let told = c.is_dme_apart_in.ensures in (
       omega arith,
-      all_on (dme_apart_in d) l.invariant.1 (sym told.0 ∙ not-false _ c.if-not-is_dme_apart_in.false),
+      all_on (dme_apart_in d) l.invariant.1 (sym told.0 ∙ c.if-not-is_dme_apart_in.false),
       told.1.0,
       λ k h.
           told.1.1 k h ∙ ap₂ bit_or (l.invariant.3 k h) (sym (held_open d sized l.order k h)) ∙ anywhere_on (held_in d k) l.order (omega arith),

@@ -2,17 +2,22 @@
 -- that it holds, and SME is asked of it.
 use mathlib.Core.Path.{◌≡◌}
 use mathlib.Core.Bool.{true}
-use Prim.Native.Nat.{ℕ, ◌-◌, ◌≤◌, ◌<◌}
+use Prim.Native.Nat.{ℕ, ◌-◌, ◌≤◌, ◌<◌, ◌^◌}
 use lib.ListN.{length}
 use Rattle.sets.specs.Search.{all}
 use Rattle.book.specs.Slice.{words, tables}
 use Rattle.hand_rules.specs.Hands.{dme_apart_in}
+use Rattle.sets.specs.Mask.{joined}
+use Rattle.rules.specs.Book.{Book}
 use Rattle.hand_rules.proofs.are_apart.Given as goal
+
+abbrev pub held_below : Book → ℕ → ℕ → ℕ
+held_below d p k = joined p (held_in d k) (2 ^ 64 - 1)
 
 abbrev pub invariant-loop-order : goal.invariant-loop-order
 invariant-loop-order l =
     (l.order ≤ 64) × (all l.order (dme_apart_in (tables l.book)) ≡ true)
-    × (length l.initial.order ≡ 64) × ((k : ℕ) → k < 64 → words l.initial.order k ≡ held_below (tables l.book) l.order k)
+    × (length l.anywhere ≡ 64) × ((k : ℕ) → k < 64 → words l.anywhere k ≡ held_below (tables l.book) l.order k)
 
 abbrev pub decreases-loop-order : goal.decreases-loop-order
 decreases-loop-order l = 64 - l.order

@@ -10,11 +10,8 @@ use Rattle.rules.specs.Audit.{pair_free}
 use Rattle.book.specs.Slice.{words, tables}
 use Rattle.hand_rules.proofs.ApartLaws.{free_none}
 use borrow.Author.Rules.{rules}
+use Rattle.hand_rules.proofs.are_free.Invariants.{asked}
 use Rattle.hand_rules.proofs.are_free.Goals as goal
-
--- what is asked of subject k
-abbrev asked : (ℕ → ℕ) → List ℕ → ℕ → Bool
-asked rows held k = pair_free rows (words held k)
 
 pub loop-left-init : goal.loop-left-init
 loop-left-init c =
@@ -34,7 +31,7 @@ pub returns-then-not-is_pair_free : goal.returns-then-not-is_pair_free
 returns-then-not-is_pair_free c =
     let s = c.args in
     let l = c.loop-left in
-    let e = sym c.is_pair_free.ensures ∙ not-true _ c.if-not-is_pair_free.true in
+    let e = sym c.is_pair_free.ensures ∙ c.if-not-is_pair_free.true in
     let told = rw c.lowest.ensures at e in
     sym (seen_fails (asked ((tables s.book.now).row s.table) s.held.now) (omega arith) l.invariant.0 told)
 
@@ -48,7 +45,7 @@ loop-left-preserved c =
     let s = c.args in
     let l = c.loop-left in
     let some : 0 < l.left = omega arith in
-    let e = sym c.is_pair_free.ensures ∙ not-false _ c.if-not-is_pair_free.false in
+    let e = sym c.is_pair_free.ensures ∙ c.if-not-is_pair_free.false in
     let told = rw c.lowest.ensures at e in (
       omega (arith, c.rest-left.ensures, rest_lt l.left some l.invariant.0),
       rw c.rest-left.ensures (seen_on (asked ((tables s.book.now).row s.table) s.held.now) some l.invariant.0 l.invariant.1 told),

@@ -1,9 +1,15 @@
 -- A test of all subjects over the defined ones: who is undefined is noted with nothing, which holds no pair.
-use mathlib.Core.Bool.{true}
-use Prim.Native.Nat.{◌^◌, ◌<◌}
+use mathlib.Core.Bool.{true, Bool}
+use Prim.Native.Nat.{◌^◌, ◌<◌, ℕ}
 use Rattle.sets.proofs.MemberLaws.{Seen}
-use Rattle.book.specs.Slice.{tables}
+use Rattle.book.specs.Slice.{tables, words}
+use mathlib.Core.List.{List}
+use Rattle.rules.specs.Audit.{pair_free}
 use Rattle.hand_rules.proofs.are_free.Given as goal
+
+-- what is asked of subject k
+abbrev pub asked : (ℕ → ℕ) → List ℕ → ℕ → Bool
+asked rows held k = pair_free rows (words held k)
 
 abbrev pub invariant-loop-left : goal.invariant-loop-left
 invariant-loop-left l = (l.left < 2 ^ 64) × Seen (asked ((tables l.book).row l.table) l.held) true l.left

@@ -31,7 +31,7 @@ returns-then-not-is_bound_together c =
     let l = c.loop-left in
     let d = tables s.book.now in
     let sized = read_sized (words s.book.now) (λ i h. (c.type_inv.book i).fits) in
-    let e = sym c.is_bound_together.ensures ∙ not-true _ c.if-not-is_bound_together.true in
+    let e = sym c.is_bound_together.ensures ∙ c.if-not-is_bound_together.true in
     sym (seen_fails (bound_together d) (omega arith) l.invariant.0 (rw c.lowest.ensures at e))
     ∙ tells_kept d sized (search rules) 10 (omega arith) (together_exactly d sized ((broken_unless d sized (search rules) 2 (omega arith)).means (search rules)))
 
@@ -45,7 +45,7 @@ loop-left-preserved c =
     let s = c.args in
     let l = c.loop-left in
     let some : 0 < l.left = omega arith in
-    let e = sym c.is_bound_together.ensures ∙ not-false _ c.if-not-is_bound_together.false in (
+    let e = sym c.is_bound_together.ensures ∙ c.if-not-is_bound_together.false in (
       omega (arith, c.rest-left.ensures, rest_lt l.left some l.invariant.0),
       rw c.rest-left.ensures
           (seen_on (bound_together (tables s.book.now)) some l.invariant.0 l.invariant.1 (rw c.lowest.ensures at e)),

@@ -29,7 +29,7 @@ pub returns-then-not-is_alike : goal.returns-then-not-is_alike
 returns-then-not-is_alike c =
     let s = c.args in
     let l = c.loop-left in
-    let e = not-true c.is_alike.result c.if-not-is_alike.true in
+    let e = c.if-not-is_alike.true in
     let told = rw (c.is_alike.ensures, c.cell.ensures, c.lowest-v.ensures) at e in
     sym (seen_fails (same_hand (tables s.book.now) s.order s.subjects s.roles s.own_val) (omega arith) l.invariant.0 told)
 
@@ -43,7 +43,7 @@ loop-left-preserved c =
     let s = c.args in
     let l = c.loop-left in
     let some : 0 < l.left = omega arith in
-    let e = not-false c.is_alike.result c.if-not-is_alike.false in
+    let e = c.if-not-is_alike.false in
     let told = rw (c.is_alike.ensures, c.cell.ensures, c.lowest-v.ensures) at e in (
       omega (arith, c.rest-left.ensures, rest_lt l.left some l.invariant.0),
       rw c.rest-left.ensures

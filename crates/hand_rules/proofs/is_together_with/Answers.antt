@@ -26,7 +26,7 @@ pub returns-then-not-is_together_in : goal.returns-then-not-is_together_in
 returns-then-not-is_together_in c =
     let s = c.args in
     let l = c.loop-left in
-    let e = sym c.is_together_in.ensures ∙ not-true _ c.if-not-is_together_in.true in
+    let e = sym c.is_together_in.ensures ∙ c.if-not-is_together_in.true in
     let f : ℕ → Bool = together_in (tables s.book.now) s.subjects s.roles s.u in
     sym (seen_fails f (omega arith) l.invariant.0 (rw c.lowest.ensures at e))
 
@@ -40,7 +40,7 @@ loop-left-preserved c =
     let s = c.args in
     let l = c.loop-left in
     let some : 0 < l.left = omega arith in
-    let e = sym c.is_together_in.ensures ∙ not-false _ c.if-not-is_together_in.false in
+    let e = sym c.is_together_in.ensures ∙ c.if-not-is_together_in.false in
     let f : ℕ → Bool = together_in (tables s.book.now) s.subjects s.roles s.u in (
       omega (arith, c.rest-left.ensures, rest_lt l.left some l.invariant.0),
       rw c.rest-left.ensures (seen_on f some l.invariant.0 l.invariant.1 (rw c.lowest.ensures at e)),

@@ -10,7 +10,7 @@ use Rattle.hands.proofs.held_among.Given as goal
 abbrev pub invariant-loop-left : goal.invariant-loop-left
 invariant-loop-left l =
     let mine = in_hand (tables l.book) l.order l.subject in
-    (l.left < 2 ^ 64) × (bit_or l.initial.left (picked mine l.left) ≡ picked mine l.held)
+    (l.left < 2 ^ 64) × (bit_or l.held (picked mine l.left) ≡ picked mine l.initial.left)
 
 abbrev pub decreases-loop-left : goal.decreases-loop-left
 decreases-loop-left l = l.left

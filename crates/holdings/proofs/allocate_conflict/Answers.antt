@@ -9,11 +9,11 @@ pub returns-then-not-is_accepted : goal.returns-then-not-is_accepted
 returns-then-not-is_accepted c =
     let s = c.args in
     sme_stands (tables s.book.now) s.a s.b s.c c.subject_hand-hand.ensures c.sme_held-sme.ensures
-    (sym c.is_accepted.ensures ∙ not-true _ c.if-not-is_accepted.true)
+    (sym c.is_accepted.ensures ∙ c.if-not-is_accepted.true)
 
 pub returns : goal.returns
 returns c =
     let s = c.args in
     dme_next (tables s.book.now) s.a s.b s.c
     c.subject_hand-hand.ensures c.sme_held-sme.ensures
-    (sym c.is_accepted.ensures ∙ not-false _ c.if-not-is_accepted.false) c.dme_held.ensures
+    (sym c.is_accepted.ensures ∙ c.if-not-is_accepted.false) c.dme_held.ensures

@@ -6,7 +6,7 @@ use Rattle.labels.proofs.NameLaws.{begun}
 use Rattle.labels.proofs.fill.Given as goal
 
 abbrev pub invariant-loop-i : goal.invariant-loop-i
-invariant-loop-i l = (l.i ≤ 24) × (l.initial.i ≡ begun l.initial.names l.names l.at l.i) × (length l.initial.i ≡ length l.initial.names)
+invariant-loop-i l = (l.i ≤ 24) × (l.names ≡ begun l.initial.names l.at l.word l.i) × (length l.names ≡ length l.initial.names)
 
 abbrev pub decreases-loop-i : goal.decreases-loop-i
 decreases-loop-i l = 24 - l.i

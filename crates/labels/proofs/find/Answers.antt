@@ -9,10 +9,10 @@ pub returns-then-sort-ge-SORTS : goal.returns-then-sort-ge-SORTS
 returns-then-sort-ge-SORTS c = found_no_sort _ _ _ c.if-sort-ge-SORTS.true
 
 pub returns-then-not-is_name : goal.returns-then-not-is_name
-returns-then-not-is_name c = found_no_name _ _ _ (omega arith) (sym c.is_name.ensures ∙ not-true _ c.if-not-is_name.true)
+returns-then-not-is_name c = found_no_name _ _ _ (omega arith) (sym c.is_name.ensures ∙ c.if-not-is_name.true)
 
 pub returns : goal.returns
 returns c =
     c.find_row.ensures
-    ∙ found_row _ _ _ _ (omega arith) (sym c.is_name.ensures ∙ not-false _ c.if-not-is_name.false)
+    ∙ found_row _ _ _ _ (omega arith) (sym c.is_name.ensures ∙ c.if-not-is_name.false)
     c.row_at.ensures

@@ -8,7 +8,7 @@ use Rattle.labels.proofs.NameLaws.{passes}
 use Rattle.labels.proofs.has_name_bytes.Given as goal
 
 abbrev pub invariant-loop-i : goal.invariant-loop-i
-invariant-loop-i l = (l.i-end ≤ length l.word) × (l.i ≡ length l.word) × (all l.i-end (passes l.word) ≡ true)
+invariant-loop-i l = (l.i ≤ length l.word) × (l.i-end ≡ length l.word) × (all l.i (passes l.word) ≡ true)
 
 abbrev pub decreases-loop-i : goal.decreases-loop-i
-decreases-loop-i l = length l.word - l.i-end
+decreases-loop-i l = length l.word - l.i

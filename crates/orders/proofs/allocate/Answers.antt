@@ -12,7 +12,7 @@ use Rattle.orders.proofs.allocate.Goals as goal
 pub returns-then-not-is_accepted : goal.returns-then-not-is_accepted
 returns-then-not-is_accepted c =
     let full : Full c.args.book.now = omega arith in
-    settled_kept c.judge_allocation-answer.ensures (sym c.is_accepted.ensures ∙ not-true _ c.if-not-is_accepted.true) full
+    settled_kept c.judge_allocation-answer.ensures (sym c.is_accepted.ensures ∙ c.if-not-is_accepted.true) full
 
 pub stamp-requires : goal.stamp-requires
 stamp-requires c =
@@ -20,8 +20,7 @@ stamp-requires c =
     let d = tables s.book.now in
     let sized = read_sized (words s.book.now)
     (λ i h. (c.type_inv.book i).fits) in
-    let yes = sym c.is_accepted.ensures ∙ not-false _
-    c.if-not-is_accepted.false in
+    let yes = sym c.is_accepted.ensures ∙ c.if-not-is_accepted.false in
     let owned = allocated_owned d s.a s.b s.c
     c.judge_allocation-answer.ensures yes in
     let role = active_bounds d s.c sized owned c.row-e.ensures in
@@ -31,8 +30,7 @@ pub returns : goal.returns
 returns c =
     let s = c.args in
     let yes = sym
-    c.is_accepted.ensures ∙ not-false _
-    c.if-not-is_accepted.false in
+    c.is_accepted.ensures ∙ c.if-not-is_accepted.false in
     let stored = c.stamp.ensures in
     settled_changed
     c.judge_allocation-answer.ensures yes

@@ -23,7 +23,7 @@ pub cell_refusal-requires : goal.cell_refusal-requires
 cell_refusal-requires c =
     let s = c.args in
     let sized = read_sized (words s.book.now) (λ i h. (c.type_inv.book i).fits) in
-    let owned = sym c.active_owned.ensures ∙ not-false _ c.if-not-active_owned.false in
+    let owned = sym c.active_owned.ensures ∙ c.if-not-active_owned.false in
     let role = active_bounds (tables s.book.now) s.c sized owned c.row.ensures in
     (omega arith, omega arith, omega arith, role.0, role.1)
 

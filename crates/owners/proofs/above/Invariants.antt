@@ -6,7 +6,7 @@ use Rattle.owners.specs.Rising.{above, Raised}
 use Rattle.owners.proofs.above.Given as goal
 
 abbrev pub invariant-loop-more : goal.invariant-loop-more
-invariant-loop-more l = (l.more < 2 ^ 64) × (above (tables l.book) l.initial.more ≡ above (tables l.book) l.set) × Raised (tables l.book) l.initial.more l.more
+invariant-loop-more l = (l.more < 2 ^ 64) × (above (tables l.book) l.all ≡ above (tables l.book) l.set) × Raised (tables l.book) l.all l.more
 
 abbrev pub decreases-loop-more : goal.decreases-loop-more
-decreases-loop-more l = 2 ^ 64 - l.initial.more
+decreases-loop-more l = 2 ^ 64 - l.all

@@ -6,10 +6,10 @@ use Rattle.deeds.proofs.OutcomeLaws.{decide_refused, decide_conflict}
 use Rattle.pairs.proofs.judge_pair.Goals as goal
 
 pub returns-then-not-is_accepted : goal.returns-then-not-is_accepted
-returns-then-not-is_accepted c = decide_refused _ _ _ _ _ _ c.pair_refusal-refusal.ensures (sym c.is_accepted.ensures ∙ not-true _ c.if-not-is_accepted.true)
+returns-then-not-is_accepted c = decide_refused _ _ _ _ _ _ c.pair_refusal-refusal.ensures (sym c.is_accepted.ensures ∙ c.if-not-is_accepted.true)
 
 pub returns : goal.returns
 unfolding conflicts
 returns c =
     decide_conflict _ _ _ _ _ _ _ c.pair_refusal-refusal.ensures
-    (sym c.is_accepted.ensures ∙ not-false _ c.if-not-is_accepted.false) c.pair_conflict.ensures
+    (sym c.is_accepted.ensures ∙ c.if-not-is_accepted.false) c.pair_conflict.ensures

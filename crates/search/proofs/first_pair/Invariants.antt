@@ -11,14 +11,14 @@ use Rattle.search.specs.declared.Found.TheVariants.{Nothing}
 use Rattle.search.proofs.first_pair.Given as goal
 
 abbrev pub invariant-loop-y : goal.invariant-loop-y
-invariant-loop-y l = (l.y ≡ lowest (bit l.x)) × (l.initial.y ≡ Nothing)
+invariant-loop-y l = (l.y ≡ lowest (bit l.partners)) × (l.found ≡ Nothing)
 
 abbrev pub decreases-loop-y : goal.decreases-loop-y
 decreases-loop-y l = 64 - l.y
 
 abbrev pub invariant-search : goal.invariant-search
 invariant-search l =
-    (l.left < 2 ^ 64) × ((k : ℕ) → bit l.left k ≡ true → bit l.xs k ≡ true) × Seen (paired (between ((tables l.book).row l.table) l.xs l.ys)) false l.left × (l.initial.left ≡ Nothing)
+    (l.left < 2 ^ 64) × ((k : ℕ) → bit l.left k ≡ true → bit l.xs k ≡ true) × Seen (paired (between ((tables l.book).row l.table) l.xs l.ys)) false l.left × (l.found ≡ Nothing)
 
 abbrev pub decreases-search : goal.decreases-search
 decreases-search l = l.left

@@ -10,11 +10,8 @@ use Rattle.sets.proofs.MemberLaws.{lowest_lt, lowest_in, rest_lt, seen_on, seen_
 use Rattle.rules.specs.Audit.{pair_free}
 use Rattle.book.specs.Slice.{tables}
 use borrow.Author.Rules.{rules}
+use Rattle.search.proofs.is_pair_free.Invariants.{free}
 use Rattle.search.proofs.is_pair_free.Goals as goal
-
--- number u is no member with a partner in the set
-abbrev free : (ℕ → ℕ) → ℕ → ℕ → Bool
-free rows set u = not (bit set u && meet (rows u) set)
 
 pub loop-left-init : goal.loop-left-init
 loop-left-init c =

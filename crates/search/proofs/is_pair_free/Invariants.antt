@@ -1,11 +1,15 @@
 -- The members seen have no partner in the set; who is no member has none anyway.
 use mathlib.Core.Path.{◌≡◌}
-use mathlib.Core.Bool.{true}
+use mathlib.Core.Bool.{true, Bool, ◌&&◌, not}
 use Prim.Native.Nat.{ℕ, ◌^◌, ◌<◌}
-use Rattle.sets.specs.Mask.{bit}
+use Rattle.sets.specs.Mask.{bit, meet}
 use Rattle.sets.proofs.MemberLaws.{Seen}
 use Rattle.book.specs.Slice.{tables}
 use Rattle.search.proofs.is_pair_free.Given as goal
+
+-- number u is no member with a partner in the set
+abbrev pub free : (ℕ → ℕ) → ℕ → ℕ → Bool
+free rows set u = not (bit set u && meet (rows u) set)
 
 abbrev pub invariant-loop-left : goal.invariant-loop-left
 invariant-loop-left l =

@@ -7,7 +7,7 @@ use Rattle.book.specs.Slice.{words}
 use Rattle.trade.proofs.joined_of.Given as goal
 
 abbrev pub invariant-loop-left : goal.invariant-loop-left
-invariant-loop-left l = (l.left < 2 ^ 64) × (bit_or l.initial.left (joined 64 (words l.rows) l.left) ≡ joined 64 (words l.rows) l.set)
+invariant-loop-left l = (l.left < 2 ^ 64) × (bit_or l.out (joined 64 (words l.rows) l.left) ≡ joined 64 (words l.rows) l.set)
 
 abbrev pub decreases-loop-left : goal.decreases-loop-left
 decreases-loop-left l = l.left

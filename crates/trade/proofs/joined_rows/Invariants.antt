@@ -10,7 +10,7 @@ use Rattle.trade.proofs.joined_rows.Given as goal
 abbrev pub invariant-loop-left : goal.invariant-loop-left
 invariant-loop-left l =
     let rows = mixed (tables l.book) l.first l.second in
-    (l.left < 2 ^ 64) × (bit_or l.initial.left (joined 64 rows l.left) ≡ joined 64 rows l.set)
+    (l.left < 2 ^ 64) × (bit_or l.out (joined 64 rows l.left) ≡ joined 64 rows l.set)
 
 abbrev pub decreases-loop-left : goal.decreases-loop-left
 decreases-loop-left l = l.left

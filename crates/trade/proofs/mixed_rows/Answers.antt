@@ -18,4 +18,4 @@ loop-r-preserved c =
     (omega arith, simp length-set l.invariant.1, placed rows l.rows l.r _ (omega arith) c.mixed_row.ensures l.invariant.2)
 
 pub returns : goal.returns
-returns c = c.loop-r.invariant.2 k (omega arith)
+returns c k l = c.loop-r.invariant.2 k (omega arith)

@@ -6,7 +6,7 @@ use Rattle.shown.specs.Cells.{cell_count}
 use Rattle.shown.proofs.about.hands.Given as goal
 
 abbrev pub invariant-loop-at : goal.invariant-loop-at
-invariant-loop-at l = (l.at ≤ cell_count) × (length l.initial.at ≡ length l.initial.paper)
+invariant-loop-at l = (l.at ≤ cell_count) × (length l.paper ≡ length l.initial.paper)
 
 abbrev pub decreases-loop-at : goal.decreases-loop-at
 decreases-loop-at l = cell_count - l.at

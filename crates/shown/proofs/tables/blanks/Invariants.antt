@@ -5,7 +5,7 @@ use lib.ListN.{length}
 use Rattle.shown.proofs.tables.blanks.Given as goal
 
 abbrev pub invariant-loop-n : goal.invariant-loop-n
-invariant-loop-n l = (l.paper ≤ l.n) × (length l.initial.n ≡ length l.initial.paper)
+invariant-loop-n l = (l.used ≤ l.n) × (length l.paper ≡ length l.initial.paper)
 
 abbrev pub decreases-loop-n : goal.decreases-loop-n
-decreases-loop-n l = l.used - l.n
+decreases-loop-n l = l.wide - l.n

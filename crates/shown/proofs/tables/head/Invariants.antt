@@ -5,7 +5,7 @@ use lib.ListN.{length}
 use Rattle.shown.proofs.tables.head.Given as goal
 
 abbrev pub invariant-loop-column : goal.invariant-loop-column
-invariant-loop-column l = (l.column ≤ 7) × (length l.initial.column ≡ length l.initial.paper)
+invariant-loop-column l = (l.column ≤ 7) × (length l.paper ≡ length l.initial.paper)
 
 abbrev pub decreases-loop-column : goal.decreases-loop-column
 decreases-loop-column l = 7 - l.column

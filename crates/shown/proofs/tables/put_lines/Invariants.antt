@@ -6,7 +6,7 @@ use Rattle.shown.specs.Cells.{cell_count}
 use Rattle.shown.proofs.tables.put_lines.Given as goal
 
 abbrev pub invariant-loop-line : goal.invariant-loop-line
-invariant-loop-line l = (l.line ≤ cell_count) × (length l.initial.line ≡ length l.initial.paper)
+invariant-loop-line l = (l.line ≤ cell_count) × (length l.paper ≡ length l.initial.paper)
 
 abbrev pub decreases-loop-line : goal.decreases-loop-line
 decreases-loop-line l = cell_count - l.line

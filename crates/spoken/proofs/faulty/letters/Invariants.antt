@@ -5,7 +5,7 @@ use lib.ListN.{length}
 use Rattle.spoken.proofs.faulty.letters.Given as goal
 
 abbrev pub invariant-loop-i : goal.invariant-loop-i
-invariant-loop-i l = (l.i ≤ length l.paper) × (length l.initial.i ≡ length l.initial.paper)
+invariant-loop-i l = (l.i ≤ length l.word) × (length l.paper ≡ length l.initial.paper)
 
 abbrev pub decreases-loop-i : goal.decreases-loop-i
-decreases-loop-i l = length l.paper - l.i
+decreases-loop-i l = length l.word - l.i

@@ -5,7 +5,7 @@ use lib.ListN.{length}
 use Rattle.spoken.proofs.sentence.tell.Given as goal
 
 abbrev pub invariant-loop-i : goal.invariant-loop-i
-invariant-loop-i l = length l.initial.i ≡ length l.initial.paper
+invariant-loop-i l = length l.paper ≡ length l.initial.paper
 
 abbrev pub decreases-loop-i : goal.decreases-loop-i
-decreases-loop-i l = length l.names - l.i
+decreases-loop-i l = length l.text - l.i

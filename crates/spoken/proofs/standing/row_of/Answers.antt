@@ -7,12 +7,12 @@ use Rattle.book.specs.Slice.{words}
 use Rattle.spoken.proofs.standing.row_of.Goals as goal
 
 pub returns-then-book-ne-WORDS : goal.returns-then-book-ne-WORDS
-returns-then-book-ne-WORDS c = absurd (c.if-book-ne-WORDS.true full)
+returns-then-book-ne-WORDS c full = absurd (c.if-book-ne-WORDS.true full)
 
 pub returns-then-n-gt63 : goal.returns-then-n-gt63
-returns-then-n-gt63 c =
+returns-then-n-gt63 c full =
     let s = c.args in
     sym (read_no_row (words s.book.now) s.table s.n (inr (omega arith)))
 
 pub returns : goal.returns
-returns c = c.row.ensures
+returns c full = c.row.ensures

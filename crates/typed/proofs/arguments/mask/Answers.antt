@@ -6,16 +6,16 @@ use Rattle.typed.proofs.arguments.mask.Goals as goal
 
 pub returns-then-not-is_tasks : goal.returns-then-not-is_tasks
 returns-then-not-is_tasks c =
-    c.thing.ensures ∙ mask_number _ _ _ _ _ c.next-word.ensures.0 _ c.is_tasks.ensures (not-true _ c.if-not-is_tasks.true)
+    c.thing.ensures ∙ mask_number _ _ _ _ _ c.next-word.ensures.0 _ c.is_tasks.ensures (c.if-not-is_tasks.true)
 
 pub returns-in-Is : goal.returns-in-Is
 returns-in-Is c =
     let thing = sym c.thing-2.ensures ∙ c.in-Is.is in
-    let is-tasks = not-false _ c.if-not-is_tasks.false in
+    let is-tasks = c.if-not-is_tasks.false in
     c.tasks_from.ensures
     ∙ mask_listed _ _ _ _ _ c.next-word.ensures.0 _ c.is_tasks.ensures is-tasks _ _ thing
 
 pub returns-in-Not : goal.returns-in-Not
 returns-in-Not c =
     let thing = sym c.thing-2.ensures ∙ c.in-Not.is in
-    mask_bad_lem _ _ _ _ _ c.next-word.ensures.0 _ c.is_tasks.ensures (not-false _ c.if-not-is_tasks.false) _ _ thing
+    mask_bad_lem _ _ _ _ _ c.next-word.ensures.0 _ c.is_tasks.ensures (c.if-not-is_tasks.false) _ _ thing

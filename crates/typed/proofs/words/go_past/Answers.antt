@@ -12,13 +12,13 @@ loop-i-init c = (omega arith, search rules, refl)
 pub returns-then-not-is_of : goal.returns-then-not-is_of
 returns-then-not-is_of c =
     let l = c.loop-i in
-    let other = sym c.is_of.ensures ∙ not-true _ c.if-not-is_of.true in
+    let other = sym c.is_of.ensures ∙ c.if-not-is_of.true in
     (sym (past_stops _ l.i _ (omega arith) refl _ other) ∙ l.invariant.2, l.invariant.0, l.invariant.1)
 
 pub loop-i-preserved : goal.loop-i-preserved
 loop-i-preserved c =
     let l = c.loop-i in
-    let same = sym c.is_of.ensures ∙ not-false _ c.if-not-is_of.false in
+    let same = sym c.is_of.ensures ∙ c.if-not-is_of.false in
     (omega arith, omega arith, sym (past_on _ l.i _ (omega arith) refl _ same) ∙ l.invariant.2)
 
 pub returns : goal.returns
