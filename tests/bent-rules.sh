@@ -307,7 +307,8 @@ mistell "33 and 34 with the lowest partner of anything that is held" Numbers.ant
 mistell "33 and 34 of a partner in whose row the held task is" Numbers.antt \
     'between (d.row n) (held_by d p c) hand' '(λ u v. between (d.row n) hand (held_by d p c) v u)'
 mistell "33 after 34" Numbers.antt 'held_sme c ∷ held_dme c ∷ []' 'held_dme c ∷ held_sme c ∷ []'
-mistell "34 that names no order" Numbers.antt 'given_pair_in 34 (holds DME d c (subject_hand d a b) b) b' 'given_pair_in 34 (holds DME d c (subject_hand d a b) b) 0'
+mistell "34 that names no order" Numbers.antt \
+    'given_pair_in 34 (holds DME d c (subject_hand d a b) b) b' 'given_pair_in 34 (holds DME d c (subject_hand d a b) b) 0'
 tell "33 with a test that adds nothing" Numbers.antt 'given (ltb p 64) (say_pair n (f p) p)' 'given (ltb p 64 && true) (say_pair n (f p) p)'
 
 # ---- What 31 and 32 name (M-105)
