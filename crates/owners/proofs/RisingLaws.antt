@@ -49,7 +49,7 @@ module _ (d : Book) (s : Sized d) (f : Formed d) where
   chain_up stay = stay
   chain_up (more {j = j} {k = k} c e) = chain_join (more stay ((senior k j).holds e)) (chain_up c)
 
-  chain_down : {i j : ℕ} → Chain (Step (seniors d)) j i → Chain (Step (d.row juniors)) i j
+  chain_down : {j i : ℕ} → Chain (Step (seniors d)) j i → Chain (Step (d.row juniors)) i j
   chain_down stay = stay
   chain_down (more {j = j} {k = k} c e) = chain_join (more stay ((senior j k).means e)) (chain_down c)
 

@@ -24,6 +24,6 @@ returns c =
     let d = tables s.book.now in
     let at = c.loop-t in (
       at.invariant.1,
-      at.invariant.2 ∙ all_emptied (words row.new.0) s.order at.t (omega arith)
+      at.invariant.2 ∙ all_emptied (words row.new.book) s.order at.t (omega arith)
           ∙ ap (λ (b : Book). emptied b s.order) {y = set_table d orders (set_row (d.row orders) s.order s.tasks)} row.ensures.1,
     )

@@ -1,6 +1,6 @@
 -- 31 where a role has a clash, else what the subjects are asked.
 use mathlib.Core.Path.{refl}
-use mathlib.Core.List.{◌∷◌}
+use mathlib.Core.List.{[], ◌∷◌}
 use Rattle.rules.specs.Numbers.{task_assignment, role_assignment}
 use Rattle.book.specs.Slice.{tables}
 use Rattle.owners.specs.declared.Owner.TheVariants.{Role}

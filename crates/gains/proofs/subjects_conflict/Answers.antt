@@ -1,5 +1,6 @@
 -- 32 where a subject has a clash.
 use mathlib.Core.Path.{refl}
+use mathlib.Core.List.{[]}
 use Rattle.rules.specs.Numbers.{first_of, role_assignment}
 use Rattle.book.specs.Slice.{tables}
 use Rattle.owners.specs.declared.Owner.TheVariants.{Subject}

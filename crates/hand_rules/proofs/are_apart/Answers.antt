@@ -19,12 +19,8 @@ use Rattle.book.specs.Slice.{words, tables}
 use Rattle.hand_rules.specs.Hands.{sme_apart, dme_apart_in, dme_apart}
 use Rattle.hand_rules.proofs.ApartLaws.{anywhere_on, all_alike, nothing_anywhere, apart_kept}
 use borrow.Author.Rules.{rules}
-use Rattle.hand_rules.proofs.are_apart.Invariants.{held_below}
+use Rattle.hand_rules.proofs.are_apart.Invariants.{held_in, held_below}
 use Rattle.hand_rules.proofs.are_apart.Goals as goal
-
--- what subject k holds in order p, if it is open, and in the orders below p
-abbrev held_in : Book → ℕ → ℕ → ℕ
-held_in d k p = only (is_open d p) (held_by d p k)
 
 -- Below 64 are all of them.
 all-orders : (d : Book) (p k : ℕ) → 64 ≤ p → p ≤ 64 → {v : ℕ} → v ≡ held_below d p k → v ≡ held_anywhere d k

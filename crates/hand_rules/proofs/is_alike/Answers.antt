@@ -5,6 +5,6 @@ use Rattle.hand_rules.proofs.is_alike.Goals as goal
 pub returns : goal.returns
 returns c =
     let s = c.args in
-    alike_seen s.subjects s.roles s.v s.own_val s.other c.has.ensures
+    alike_seen s.subjects s.roles s.v s.own s.other c.has.ensures
     c.has-2.ensures c.subject_in.ensures
     c.subject_in-2.ensures c.role_in.ensures c.role_in-2.ensures

@@ -14,7 +14,7 @@ use Rattle.hand_rules.proofs.is_together.Goals as goal
 pub loop-left-init : goal.loop-left-init
 loop-left-init c =
     let s = c.args in
-    (or_lt 64 s.subjects s.roles (search rules) (search rules), λ k h out. alike_none s.subjects s.roles k s.own_val _ out)
+    (or_lt 64 s.subjects s.roles (search rules) (search rules), λ k h out. alike_none s.subjects s.roles k s.own _ out)
 
 pub cell-requires : goal.cell-requires
 cell-requires c =
@@ -31,7 +31,7 @@ returns-then-not-is_alike c =
     let l = c.loop-left in
     let e = c.if-not-is_alike.true in
     let told = rw (c.is_alike.ensures, c.cell.ensures, c.lowest-v.ensures) at e in
-    sym (seen_fails (same_hand (tables s.book.now) s.order s.subjects s.roles s.own_val) (omega arith) l.invariant.0 told)
+    sym (seen_fails (same_hand (tables s.book.now) s.order s.subjects s.roles s.own) (omega arith) l.invariant.0 told)
 
 pub loop-left-smaller : goal.loop-left-smaller
 loop-left-smaller c =
@@ -47,10 +47,10 @@ loop-left-preserved c =
     let told = rw (c.is_alike.ensures, c.cell.ensures, c.lowest-v.ensures) at e in (
       omega (arith, c.rest-left.ensures, rest_lt l.left some l.invariant.0),
       rw c.rest-left.ensures
-          (seen_on (same_hand (tables s.book.now) s.order s.subjects s.roles s.own_val) some l.invariant.0 l.invariant.1 told),
+          (seen_on (same_hand (tables s.book.now) s.order s.subjects s.roles s.own) some l.invariant.0 l.invariant.1 told),
     )
 
 pub returns : goal.returns
 returns c =
     let s = c.args in
-    sym (seen_all (same_hand (tables s.book.now) s.order s.subjects s.roles s.own_val) (rw c.loop-left-test.false at c.loop-left.invariant.1))
+    sym (seen_all (same_hand (tables s.book.now) s.order s.subjects s.roles s.own) (rw c.loop-left-test.false at c.loop-left.invariant.1))

@@ -11,13 +11,13 @@ use Rattle.orders.proofs.allocate_refusal.Goals as goal
 pub returns-then-not-is_in_row : goal.returns-then-not-is_in_row
 returns-then-not-is_in_row c =
     let s = c.args in
-    not_in_order (tables s.book.now) s.a s.b s.c c.is_in_row.ensures c.if-not-is_in_row.true
+    not_in_order (tables s.book.now) s.a s.b s.c c.is_in_row.ensures (ap not c.if-not-is_in_row.true)
 
 pub returns-then-not-active_owned : goal.returns-then-not-active_owned
 returns-then-not-active_owned c =
     let s = c.args in
-    not_owned (tables s.book.now) s.a s.b s.c c.is_in_row.ensures c.if-not-is_in_row.false
-    c.active_owned.ensures c.if-not-active_owned.true
+    not_owned (tables s.book.now) s.a s.b s.c c.is_in_row.ensures (ap not c.if-not-is_in_row.false)
+    c.active_owned.ensures (ap not c.if-not-active_owned.true)
 
 pub cell_refusal-requires : goal.cell_refusal-requires
 cell_refusal-requires c =
@@ -31,5 +31,5 @@ pub returns : goal.returns
 returns c =
     let s = c.args in
     cell_asked (tables s.book.now) s.a s.b s.c c.is_in_row.ensures
-    c.if-not-is_in_row.false c.active_owned.ensures c.if-not-active_owned.false
+    (ap not c.if-not-is_in_row.false) c.active_owned.ensures (ap not c.if-not-active_owned.false)
     c.row.ensures c.cell_refusal.ensures

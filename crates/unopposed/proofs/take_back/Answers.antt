@@ -18,7 +18,7 @@ returns-then-not-is_in_row c =
     let d = tables s.book.now in
     let full : Full s.book.now = omega arith in
     settled_kept
-    (refused_once (not (bit (d.row s.table s.b) s.a)) 6 (ap not (sym c.is_in_row.ensures) ∙ c.if-not-is_in_row.true)) refl full
+    (refused_once (not (bit (d.row s.table s.b) s.a)) 6 (ap not (sym c.is_in_row.ensures ∙ c.if-not-is_in_row.true))) refl full
 
 pub returns : goal.returns
 unfolding decide state_refusal conflicts first_of change
@@ -28,5 +28,5 @@ returns c =
     let stored = c.take_from_row.ensures in
     settled_changed
     (not_refused (not (bit (d.row s.table s.b) s.a)) 6
-    (ap not (sym c.is_in_row.ensures) ∙ c.if-not-is_in_row.false))
+    (ap not (sym c.is_in_row.ensures ∙ c.if-not-is_in_row.false)))
     refl stored.0 stored.1

@@ -13,7 +13,7 @@ unfolding conflicts
 returns-then-not-is_in_row c =
     let s = c.args in
     let d = tables s.book.now in
-    pair_missing d s.table s.a s.b 0 (ap not (sym c.is_in_row.ensures) ∙ c.if-not-is_in_row.true)
+    pair_missing d s.table s.a s.b 0 (ap not (sym c.is_in_row.ensures ∙ c.if-not-is_in_row.true))
     ∙ decide_unopposed d (unrelate s.table) s.a s.b 0 refl
 
 pub returns : goal.returns
@@ -21,5 +21,5 @@ unfolding conflicts
 returns c =
     let s = c.args in
     let d = tables s.book.now in
-    pair_there d s.table s.a s.b 0 (ap not (sym c.is_in_row.ensures) ∙ c.if-not-is_in_row.false) c.open_refusal.ensures
+    pair_there d s.table s.a s.b 0 (ap not (sym c.is_in_row.ensures ∙ c.if-not-is_in_row.false)) c.open_refusal.ensures
     ∙ decide_unopposed d (unrelate s.table) s.a s.b 0 refl
