@@ -1,5 +1,4 @@
 use mathlib.Core.Path.{refl}
-use Prim.Native.Nat.{◌-◌}
 use native.Mathlib.Omega.{arith}
 use Rattle.panel.proofs.CopyLaws.{copied_on, copied_all}
 use borrow.Author.Rules.{rules}

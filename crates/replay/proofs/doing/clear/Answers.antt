@@ -1,4 +1,3 @@
-use Prim.Native.Nat.{◌-◌}
 use native.Mathlib.Omega.{arith}
 use Rattle.replay.proofs.WordLaws.{clear_more, all_clear}
 use borrow.Author.Rules.{rules}
