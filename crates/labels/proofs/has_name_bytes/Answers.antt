@@ -1,10 +1,7 @@
 use mathlib.Core.Path.{refl}
-use mathlib.Core.Bool.{true}
-use Prim.Native.Nat.{◌-◌}
 use native.Mathlib.Omega.{arith}
 use Rattle.sets.specs.Search.{all}
 use Rattle.labels.proofs.NameLaws.{bytes_on, bytes_fail, bytes_done}
-use borrow.Author.Tests.{not-true, not-false}
 use Rattle.labels.proofs.has_name_bytes.Goals as goal
 
 pub loop-i-init : goal.loop-i-init
