@@ -35,7 +35,7 @@ same_answers() { # CASES EXPECTED ANSWERED: goes along all three, and tells of t
 agrees_on() { # SEED COUNT ROOM
     tools/witness cases "$1" "$2" >"$3/cases" &&
         tools/witness answers <"$3/cases" >"$3/expected" &&
-        tools/run-program target/bin/replay <"$3/cases" >"$3/answered" &&
+        tools/run-program crates/replay/out/replay <"$3/cases" >"$3/answered" &&
         same_answers "$3/cases" "$3/expected" "$3/answered"
 }
 
@@ -53,7 +53,7 @@ passes_over() { # ROOM
         printf '%s\n' '? n 4701' '? w 4676 1' '? r 1 0 0' 'r 0 0 0 0 0 32' '? r  1 5 0 0' '? a 1' '? ' '? r 1 5 0 18446744073709551616' 'a 0 0 0'
         printf '? r 1 6 %0250d\nr 0 0 0 0 0 96\n' 0
     } >"$1/told"
-    tools/run-program target/bin/replay <"$1/lines" | cmp - "$1/told"
+    tools/run-program crates/replay/out/replay <"$1/lines" | cmp - "$1/told"
 }
 
 stored_is_expected() { tools/witness answers <crates/replay/stdin | cmp - crates/replay/stdout; }

@@ -13,6 +13,7 @@
 type holds >/dev/null 2>&1 || . "$(dirname "${BASH_SOURCE[0]}")/alone"
 
 bent=$(mktemp -d)
+bent_kit=$(dirname "$(rt doc)")
 bent_count=0
 
 # What is to be proved at the trial of demand 3 or of M-101 ..
@@ -23,25 +24,25 @@ use mathlib.Core.Bool.{true≢false}
 use native.Mathlib.Omega.{arith}
 use lib.Dec.{T, eqb}
 use borrow.Author.Tests.{eq-eqb}
-use Rattle·rules.specs.Computed.{computed}
-use Rattle·rules.specs.Numbers.{wordsAfter}
-use Rattle·rules.specs.Small.{bookOf}
-use Rattle·demands.specs.Demand3.{ChecksExact, kept}
-use Rattle·demands.specs.ActiveRoles.{OnlyActivate}
-use Rattle·trials·specs.specs.Trial.{fair, agrees, exact}
-use Rattle·trials·specs.specs.$2.{$3}
-use Rattle·trials·proofs.proofs.Instances.{demand-3-tried}
+use Rattle.rules.specs.Computed.{computed}
+use Rattle.rules.specs.Numbers.{words_after}
+use Rattle.rules.specs.Small.{book_of}
+use Rattle.demands.specs.Demand3.{ChecksExact, kept}
+use Rattle.demands.specs.ActiveRoles.{OnlyActivate}
+use Rattle.trials.specs.Trial.{fair, agrees, exact}
+use Rattle.trials.specs.$2.{$3}
+use Rattle.trials.proofs.Instances.{demand_3_tried}
 
 END
     case $1 in
-    refuted) printf '%s\n' 'pub refuted : ChecksExact → ⊥' 'unfolding computed fair agrees exact' "refuted checks = demand-3-tried checks $3" ;;
+    refuted) printf '%s\n' 'pub refuted : ChecksExact → ⊥' 'unfolding computed fair agrees exact' "refuted checks = demand_3_tried checks $3" ;;
     switched)
-        printf '%s\n' 'pub refuted : OnlyActivate → ⊥' 'unfolding computed wordsAfter' \
-            "refuted only = true≢false (sym (eq-eqb _ _ (only (bookOf ($3 .words)) ($3 .request) (λ e. omega arith) 452 (omega arith) (omega arith))))"
+        printf '%s\n' 'pub refuted : OnlyActivate → ⊥' 'unfolding computed words_after' \
+            "refuted only = true≢false (sym (eq-eqb _ _ (only (book_of $3.words) $3.request (λ e. omega arith) 452 (omega arith) (omega arith))))"
         ;;
     stays)
-        printf '%s\n' "pub stays : T (eqb (kept (bookOf ($3 .words)) ($3 .request) 452) (bookOf ($3 .words) 452))" \
-            'unfolding computed wordsAfter' 'stays = tt'
+        printf '%s\n' "pub stays : T (eqb (kept (book_of $3.words) $3.request 452) (book_of $3.words 452))" \
+            'unfolding computed words_after' 'stays = tt'
         ;;
     stands) printf '%s\n' "pub stands : T (exact $3)" 'unfolding computed fair agrees exact' 'stands = tt' ;;
     esac
@@ -51,19 +52,19 @@ END
 bent_list_claim() { # CLAIM FAMILY TRIAL
     cat <<END
 use lib.Dec.{T}
-use Rattle·rules.specs.Computed.{computed}
-use Rattle·rules.specs.Numbers.{wordsAfter}
-use Rattle·clicks.specs.Clicks.{OrderFree, Restored}
-use Rattle·list_trials·specs.specs.ListTrial.{listFair, orderly, traceless}
-use Rattle·list_trials·specs.specs.$2.{$3}
-use Rattle·list_trials·proofs.proofs.Instances.{order-free-tried, restored-tried}
+use Rattle.rules.specs.Computed.{computed}
+use Rattle.rules.specs.Numbers.{words_after}
+use Rattle.clicks.specs.Clicks.{OrderFree, Restored}
+use Rattle.list_trials.specs.ListTrial.{list_fair, orderly, traceless}
+use Rattle.list_trials.specs.$2.{$3}
+use Rattle.list_trials.proofs.Instances.{order_free_tried, restored_tried}
 
 END
     case $1 in
-    disordered) printf '%s\n' 'pub refuted : OrderFree → ⊥' 'unfolding computed wordsAfter listFair orderly' "refuted free = order-free-tried free $3" ;;
-    traced) printf '%s\n' 'pub refuted : Restored → ⊥' 'unfolding computed wordsAfter traceless' "refuted back = restored-tried back $3" ;;
-    ordered) printf '%s\n' "pub stands : T (orderly $3)" 'unfolding computed wordsAfter listFair orderly' 'stands = tt' ;;
-    untraced) printf '%s\n' "pub stands : T (traceless $3)" 'unfolding computed wordsAfter traceless' 'stands = tt' ;;
+    disordered) printf '%s\n' 'pub refuted : OrderFree → ⊥' 'unfolding computed words_after list_fair orderly' "refuted free = order_free_tried free $3" ;;
+    traced) printf '%s\n' 'pub refuted : Restored → ⊥' 'unfolding computed words_after traceless' "refuted back = restored_tried back $3" ;;
+    ordered) printf '%s\n' "pub stands : T (orderly $3)" 'unfolding computed words_after list_fair orderly' 'stands = tt' ;;
+    untraced) printf '%s\n' "pub stands : T (traceless $3)" 'unfolding computed words_after traceless' 'stands = tt' ;;
     esac
 }
 
@@ -72,14 +73,14 @@ bent_table_claim() { # CLAIM FAMILY TABLE
     cat <<END
 use mathlib.Core.Bool.{not}
 use lib.Dec.{T}
-use Rattle·rules.specs.Computed.{computed}
-use Rattle·examples·specs.specs.Examples.{allGo}
-use Rattle·examples·specs.specs.$2.{$3}
+use Rattle.rules.specs.Computed.{computed}
+use Rattle.examples.specs.Examples.{all_go}
+use Rattle.examples.specs.$2.{$3}
 
 END
     case $1 in
-    mistold) printf '%s\n' "pub refuted : T (not (allGo $3))" 'unfolding computed' 'refuted = tt' ;;
-    told) printf '%s\n' "pub stands : T (allGo $3)" 'unfolding computed' 'stands = tt' ;;
+    mistold) printf '%s\n' "pub refuted : T (not (all_go $3))" 'unfolding computed' 'refuted = tt' ;;
+    told) printf '%s\n' "pub stands : T (all_go $3)" 'unfolding computed' 'stands = tt' ;;
     esac
 }
 
@@ -113,17 +114,20 @@ bent_copy() { # ROOM CLAIM FILE OLD NEW FAMILY TRIAL
     [ "$text" != "$rest" ] || { echo "crates/rules/specs/$3 does not have the text: $4"; return 1; }
     [ "$rest" = "${rest/"$4"/}" ] || { echo "crates/rules/specs/$3 has the text more than once: $4"; return 1; }
     # A bend may say "or", and name what is said of masks.
-    printf '%s\n' 'use mathlib.Core.Bool.{_||_}' 'use Rattle·sets.specs.Mask as masks' "${text/"$4"/"$5"}" >"$1/rules/specs/$3"
+    printf '%s\n' 'use mathlib.Core.Bool.{◌||◌}' 'use Rattle.sets.specs.Mask as masks' "${text/"$4"/"$5"}" >"$1/rules/specs/$3"
 }
 
-# Says that the claim is proved, or what the prover says first.
+# Says that the claim is proved, or what the prover says first. The prover is called as rt calls it; rt itself takes libraries from
+# crates.txt alone, built, and has none for one run.
 bent_verdict() { # ROOM CLAIM FILE OLD NEW FAMILY TRIAL
     bent_copy "$@" || return
     libraries=()
     for crate in $below; do
         libraries+=(--lib "$crate=$1/$crate/src/lib.rt")
     done
-    rt check "$1/$tried" "${libraries[@]}" >"$1/log" 2>&1
+    (cd "$1/$tried" && "$bent_kit/bin/rattle" check --crate-name "$tried" src/lib.rt "${libraries[@]}" --jobs 1 \
+        --extern "std=$bent_kit/rlibs/std.rlib" --extern "core=$bent_kit/rlibs/core.rlib" -L "dependency=$bent_kit/rlibs" \
+        --antt-project "$bent_kit/rattle/logic/antt-project.json" --logic-built "$bent_kit/logic_built") >"$1/log" 2>&1
     if grep -q '^logic=proved' "$1/log"; then echo proved; else grep -m 1 error "$1/log" | cut -c 1-400; fi
 }
 
@@ -153,172 +157,173 @@ bent_shown() { # TOLD
 
 # ---- Checks too weak: a change is let through that breaks a rule
 
-bend "no conflict is ever given" Numbers.antt 'in f d a b rest' 'in rest' Pairs chainedSme
+bend "no conflict is ever given" Numbers.antt 'in f d a b rest' 'in rest' Pairs chained_sme
 bend "20 left out of kind 6" Numbers.antt \
-    'rbConflicts = selfConstraint ∷' 'rbConflicts =' Pairs ownBinding
+    'rb_conflicts = self_constraint ∷' 'rb_conflicts =' Pairs own_binding
 bend "21 left out of kind 4" Numbers.antt \
-    'selfConstraint ∷ alreadyDme ∷ oneSubjectGroup' 'selfConstraint ∷ oneSubjectGroup' Pairs alsoDme
+    'self_constraint ∷ already_dme ∷ one_subject_group' 'self_constraint ∷ one_subject_group' Pairs also_dme
 bend "22 left out of kind 5" Numbers.antt \
-    'selfConstraint ∷ alreadySme ∷ oneSubjectGroup' 'selfConstraint ∷ oneSubjectGroup' Pairs alsoSme
-bend "23 by the row, without chains" Numbers.antt 'bit (subjectGroup d a) b' 'bit (d .row SB a) b' Pairs boundSubjects
-bend "24 left out of kind 4" Numbers.antt '∷ oneRoleGroup ∷' '∷' Pairs boundRoles
-bend "25 left out of kind 4" Numbers.antt '∷ roleOwnsBoth ∷' '∷' Pairs roleOwns
-bend "26 left out of kind 4" Numbers.antt '∷ subjectOwnsBoth ∷' '∷' Pairs subjectOwns
+    'self_constraint ∷ already_sme ∷ one_subject_group' 'self_constraint ∷ one_subject_group' Pairs also_sme
+bend "23 by the row, without chains" Numbers.antt 'bit (subject_group d a) b' 'bit (d.row SB a) b' Pairs bound_subjects
+bend "24 left out of kind 4" Numbers.antt '∷ one_role_group ∷' '∷' Pairs bound_roles
+bend "25 left out of kind 4" Numbers.antt '∷ role_owns_both ∷' '∷' Pairs role_owns
+bend "26 left out of kind 4" Numbers.antt '∷ subject_owns_both ∷' '∷' Pairs subject_owns
 bend "27 as 002 prints it, what a and b themselves exclude against the other's group" Numbers.antt \
-    'between (d .row SME) (roleGroup d a) (roleGroup d b)' \
-    '(λ u v. between (d .row SME) (2 ^ a) (roleGroup d b) u v || between (d .row SME) (roleGroup d a) (2 ^ b) u v)' Pairs chainedSme
+    'between (d.row SME) (role_group d a) (role_group d b)' \
+    '(λ u v. between (d.row SME) (2 ^ a) (role_group d b) u v || between (d.row SME) (role_group d a) (2 ^ b) u v)' Pairs chained_sme
 bend "27 between the two tasks themselves" Numbers.antt \
-    '(d .row SME) (roleGroup d a) (roleGroup d b)' '(d .row SME) (2 ^ a) (2 ^ b)' Pairs chainedRoles
+    '(d.row SME) (role_group d a) (role_group d b)' '(d.row SME) (2 ^ a) (2 ^ b)' Pairs chained_roles
 bend "28 between the two tasks themselves" Numbers.antt \
-    '(d .row DME) (subjectGroup d a) (subjectGroup d b)' '(d .row DME) (2 ^ a) (2 ^ b)' Pairs chainedDme
-bend "29 left out of kind 9" Numbers.antt 'selfInheritance ∷ cycle' 'cycle' Staff ownJunior
-bend "30 by the row, without chains" Numbers.antt 'bit (reach d a) b' 'bit (d .row juniors a) b' Staff wideCycle
-bend "31 without seniors" Numbers.antt '(λ o. ownsRole d (role o) b)' '(eqb b)' Staff seniorGains
+    '(d.row DME) (subject_group d a) (subject_group d b)' '(d.row DME) (2 ^ a) (2 ^ b)' Pairs chained_dme
+bend "29 left out of kind 9" Numbers.antt 'self_inheritance ∷ cycle' 'cycle' Staff own_junior
+bend "30 by the row, without chains" Numbers.antt 'bit (reach d a) b' 'bit (d.row juniors a) b' Staff wide_cycle
+bend "31 without seniors" Numbers.antt '(λ o. owns_role d (role o) b)' '(eqb b)' Staff senior_gains
 bend "31 with the tasks of the junior alone, and not of those below it" Numbers.antt \
-    'gainedRole d a = ownedTasks d (role a)' 'gainedRole d a = d .row tasksOf a' Staff juniorBrings
-bend "32 of those who have the role itself" Numbers.antt '(λ o. ownsRole d (subject d o) b)' '(λ o. bit (subject d o) b)' Staff subjectGains
-bend "32 left out of kind 9" Numbers.antt 'taskAssignment gainedRole ∷ roleAssignment gainedRole' 'taskAssignment gainedRole' Staff subjectReaches
-bend "32 left out of kind 10" Numbers.antt 'roleConflicts = ownRoleAssignment ∷ []' 'roleConflicts = []' Staff ownRole
-bend "33 left out of kind 13" Numbers.antt 'heldSme c ∷ heldDme c ∷ []' 'heldDme c ∷ []' Orders heldSme
+    'gained_role d a = owned_tasks d (role a)' 'gained_role d a = d.row tasks_of a' Staff junior_brings
+bend "32 of those who have the role itself" Numbers.antt '(λ o. owns_role d (subject d o) b)' '(λ o. bit (subject d o) b)' Staff subject_gains
+bend "32 left out of kind 9" Numbers.antt 'task_assignment gained_role ∷ role_assignment gained_role' 'task_assignment gained_role' Staff subject_reaches
+bend "32 left out of kind 10" Numbers.antt 'role_conflicts = own_role_assignment ∷ []' 'role_conflicts = []' Staff own_role
+bend "33 left out of kind 13" Numbers.antt 'held_sme c ∷ held_dme c ∷ []' 'held_dme c ∷ []' Orders held_sme
 bend "33 and 34 within the hand itself, as if nothing were held yet" Numbers.antt \
-    'between (d .row n) (heldBy d p c) hand' 'between (d .row n) hand hand' Orders heldSme
+    'between (d.row n) (held_by d p c) hand' 'between (d.row n) hand hand' Orders held_sme
 bend "33 inside order b alone, as document 01 had it" Numbers.antt \
-    'givenLowestPair 33 (isOpen d) (holds SME d c (subjectHand d a b))' 'givenPair 33 (holds SME d c (subjectHand d a b) b)' Orders heldElsewhere
-bend "34 left out of kind 13" Numbers.antt 'heldSme c ∷ heldDme c ∷ []' 'heldSme c ∷ []' Orders heldDme
+    'given_lowest_pair 33 (is_open d) (holds SME d c (subject_hand d a b))' 'given_pair 33 (holds SME d c (subject_hand d a b) b)' Orders held_elsewhere
+bend "34 left out of kind 13" Numbers.antt 'held_sme c ∷ held_dme c ∷ []' 'held_sme c ∷ []' Orders held_dme
 bend "34 of the task alone, without its subject group" Numbers.antt \
-    'holds DME d c (subjectHand d a b) b' 'holds DME d c (2 ^ a) b' Orders heldDme
+    'holds DME d c (subject_hand d a b) b' 'holds DME d c (2 ^ a) b' Orders held_dme
 bend "a role-bound task of a bound task that gets no role" Requests.antt \
-    'bitAnd (roleGroup d a) (d .row orders b)' 'bitAnd (subjectGroup d a) (d .row orders b)' Orders boundHands
+    'bit_and (role_group d a) (d.row orders b)' 'bit_and (subject_group d a) (d.row orders b)' Orders bound_hands
 bend "a closed order that keeps its cells" Requests.antt \
-    'cell = λ q t. elim (eqb q p) [ true ↦ 0 | false ↦ d .cell q t ]' 'cell = d .cell' Orders closedOrder
+    'cell = λ q t. elim (eqb q p) [ true ↦ 0 | false ↦ d.cell q t ]' 'cell = d.cell' Orders closed_order
 bend "one bit of a pair taken back and not the other" Requests.antt \
-    'takePair rows a b = takeFrom (takeFrom rows b a) a b' 'takePair rows a b = takeFrom rows a b' PairsBack dmeBack
+    'take_pair rows a b = take_from (take_from rows b a) a b' 'take_pair rows a b = take_from rows a b' PairsBack dme_back
 bend "a pair of one table taken back in the next" Requests.antt \
-    'setTable d n (takePair (d .row n) a b)' 'setTable d (suc n) (takePair (d .row n) a b)' PairsBack smeBack
+    'set_table d n (take_pair (d.row n) a b)' 'set_table d (suc n) (take_pair (d.row n) a b)' PairsBack sme_back
 bend "4 where a task need not be defined" Requests.antt \
-    'fits d aTask v = ltb v 64 && bit (tasks d) v' 'fits d aTask v = ltb v 64' Guarded undefinedTask
-bend "7 left out of kinds 4 to 7" Numbers.antt '(say 5) (openRefusal d)' '(say 5) accepted' Guarded whileOpen
-bend "8 left out of kind 13" Numbers.antt '(given (not (activeOwned d c)) (say 8)' '(given false (say 8)' Guarded inNoRole
+    'fits d a_task v = ltb v 64 && bit (tasks d) v' 'fits d a_task v = ltb v 64' Guarded undefined_task
+bend "7 left out of kinds 4 to 7" Numbers.antt '(say 5) (open_refusal d)' '(say 5) accepted' Guarded while_open
+bend "8 left out of kind 13" Numbers.antt '(given (not (active_owned d c)) (say 8)' '(given false (say 8)' Guarded in_no_role
 
 # ---- A word of the trade, on which a check and a rule both stand: the rule no longer finds what the check still does
 
-bend "the role group without the mixed chain" Trade.antt 'group (mixed d SB RB) t' 'group (d .row RB) t' Pairs mixedChain
+bend "the role group without the mixed chain" Trade.antt 'group (mixed d SB RB) t' 'group (d.row RB) t' Pairs mixed_chain
 
 # ---- Checks too strong: a change is refused that breaks no rule
 
-bend "everything is refused" Numbers.antt 'firstOf [] d a b = accepted' 'firstOf [] d a b = say 20' Orders openedOrder
-bend "20 whatever the tasks are" Numbers.antt 'given (eqb a b) (say 20' 'given true (say 20' Pairs freeSme
-bend "25 and 26 of an owner of one of the two" Numbers.antt 'bit mine a && bit mine b' 'bit mine a || bit mine b' Pairs freeSme
+bend "everything is refused" Numbers.antt 'first_of [] d a b = accepted' 'first_of [] d a b = say 20' Orders opened_order
+bend "20 whatever the tasks are" Numbers.antt 'given (eqb a b) (say 20' 'given true (say 20' Pairs free_sme
+bend "25 and 26 of an owner of one of the two" Numbers.antt 'bit mine a && bit mine b' 'bit mine a || bit mine b' Pairs free_sme
 bend "24 asked of kind 5 too" Numbers.antt \
-    'selfConstraint ∷ alreadySme ∷ oneSubjectGroup ∷ []' 'selfConstraint ∷ alreadySme ∷ oneRoleGroup ∷ []' Pairs freeDme
+    'self_constraint ∷ already_sme ∷ one_subject_group ∷ []' 'self_constraint ∷ already_sme ∷ one_role_group ∷ []' Pairs free_dme
 bend "21 asked of kind 6 too" Numbers.antt \
-    'rbConflicts = selfConstraint ∷ alreadySme' 'rbConflicts = selfConstraint ∷ alreadyDme' Pairs freeRb
+    'rb_conflicts = self_constraint ∷ already_sme' 'rb_conflicts = self_constraint ∷ already_dme' Pairs free_rb
 bend "28 of all that is DME to a's group" Numbers.antt \
-    '(d .row DME) (subjectGroup d a) (subjectGroup d b)' '(d .row DME) (subjectGroup d a) (2 ^ 64 - 1)' Pairs freeSb
+    '(d.row DME) (subject_group d a) (subject_group d b)' '(d.row DME) (subject_group d a) (2 ^ 64 - 1)' Pairs free_sb
 bend "23 asked of kinds 18 to 21 too" Numbers.antt \
-    'conflicts (unrelate n) c = []' 'conflicts (unrelate n) c = oneSubjectGroup ∷ []' PairsBack sbBack
-bend "31 of every role" Numbers.antt '(λ o. ownsRole d (role o) b)' '(λ o. true)' Staff freeTask
-bend "30 turned round" Numbers.antt 'bit (reach d a) b' 'bit (reach d b) a' Staff freeJunior
-bend "32 of tasks that are DME" Numbers.antt 'clashing (d .row SME) gain' 'clashing (d .row DME) gain' Staff freeRole
+    'conflicts (unrelate n) c = []' 'conflicts (unrelate n) c = one_subject_group ∷ []' PairsBack sb_back
+bend "31 of every role" Numbers.antt '(λ o. owns_role d (role o) b)' '(λ o. true)' Staff free_task
+bend "30 turned round" Numbers.antt 'bit (reach d a) b' 'bit (reach d b) a' Staff free_junior
+bend "32 of tasks that are DME" Numbers.antt 'clashing (d.row SME) gain' 'clashing (d.row DME) gain' Staff free_role
 bend "34 of tasks outside the order" Numbers.antt \
-    'holds DME d c (subjectHand d a b) b' 'holds DME d c (subjectGroup d a) b' Orders outsideOrder
+    'holds DME d c (subject_hand d a b) b' 'holds DME d c (subject_group d a) b' Orders outside_order
 bend "34 of every open order" Numbers.antt \
-    'givenPairIn 34 (holds DME d c (subjectHand d a b) b) b' 'givenLowestPair 34 (isOpen d) (holds DME d c (subjectHand d a b))' Orders dmeElsewhere
+    'given_pair_in 34 (holds DME d c (subject_hand d a b) b) b' 'given_lowest_pair 34 (is_open d) (holds DME d c (subject_hand d a b))' Orders dme_elsewhere
 bend "33 and 34 of what anybody holds" Numbers.antt \
-    '(d .row n) (heldBy d p c)' '(d .row n) (picked (λ t. not (eqb (subjectIn (d .cell p t)) 0)) (d .row orders p))' Orders othersHand
+    '(d.row n) (held_by d p c)' '(d.row n) (picked (λ t. not (eqb (subject_in (d.cell p t)) 0)) (d.row orders p))' Orders others_hand
 
 # ---- The audit's rules
 
-bend "rule 1 left out" Audit.antt '∷ ofFour notOwn' '∷ (λ d x. true)' Pairs ownBinding
-bend "rule 2 left out" Audit.antt '∷ ofFour symmetric' '∷ (λ d x. true)' Guarded oneSided
-bend "rule 3 left out" Audit.antt '(λ d. apart (d .row SME) (d .row DME))' '(λ d x. true)' Pairs alsoSme
-bend "rule 4 in one subject group" Audit.antt '(d .row SME) (roleGroup d)' '(d .row SME) (subjectGroup d)' Pairs boundRoles
-bend "rule 5 in one role group" Audit.antt '(d .row DME) (subjectGroup d)' '(d .row DME) (roleGroup d)' Pairs freeDme
-bend "rule 6 left out" Audit.antt '(λ d. notOwn (reach d))' '(λ d x. true)' Staff wideCycle
-bend "rule 7 of subjects" Audit.antt 'ownerFree d role' 'ownerFree d (subject d)' Pairs roleOwns
-bend "rule 8 of roles" Audit.antt 'ownerFree d (subject d)' 'ownerFree d role' Pairs subjectOwns
+bend "rule 1 left out" Audit.antt '∷ of_four not_own' '∷ (λ d x. true)' Pairs own_binding
+bend "rule 2 left out" Audit.antt '∷ of_four symmetric' '∷ (λ d x. true)' Guarded one_sided
+bend "rule 3 left out" Audit.antt '(λ d. apart (d.row SME) (d.row DME))' '(λ d x. true)' Pairs also_sme
+bend "rule 4 in one subject group" Audit.antt '(d.row SME) (role_group d)' '(d.row SME) (subject_group d)' Pairs bound_roles
+bend "rule 5 in one role group" Audit.antt '(d.row DME) (subject_group d)' '(d.row DME) (role_group d)' Pairs free_dme
+bend "rule 6 left out" Audit.antt '(λ d. not_own (reach d))' '(λ d x. true)' Staff wide_cycle
+bend "rule 7 of subjects" Audit.antt 'owner_free d role' 'owner_free d (subject d)' Pairs role_owns
+bend "rule 8 of roles" Audit.antt 'owner_free d (subject d)' 'owner_free d role' Pairs subject_owns
 bend "rule 9 of DME pairs alone" Audit.antt \
-    'handsApart d s = pairFree (d .row SME) (heldAnywhere d s) && all' 'handsApart d s = all' Orders heldSme
+    'hands_apart d s = pair_free (d.row SME) (held_anywhere d s) && all' 'hands_apart d s = all' Orders held_sme
 bend "rule 9 inside one order for SME too, as document 01 had it" Audit.antt \
-    'pairFree (d .row SME) (heldAnywhere d s)' 'all 64 (λ p. implies (isOpen d p) (pairFree (d .row SME) (heldBy d p s)))' Orders heldElsewhere
+    'pair_free (d.row SME) (held_anywhere d s)' 'all 64 (λ p. implies (is_open d p) (pair_free (d.row SME) (held_by d p s)))' Orders held_elsewhere
 bend "rule 9 over all orders for DME too" Audit.antt \
-    'all 64 (λ p. implies (isOpen d p) (pairFree (d .row DME) (heldBy d p s)))' 'pairFree (d .row DME) (heldAnywhere d s)' Orders dmeElsewhere
-bend "rule 10 with one S in a role group" Audit.antt 'implies (bit bySubject v)' 'implies (bit byRole v)' Orders boundHands
+    'all 64 (λ p. implies (is_open d p) (pair_free (d.row DME) (held_by d p s)))' 'pair_free (d.row DME) (held_anywhere d s)' Orders dme_elsewhere
+bend "rule 10 with one S in a role group" Audit.antt 'implies (bit by_subject v)' 'implies (bit by_role v)' Orders bound_hands
 
 # ---- Who acts in what, which kind 11 alone says (M-101)
 
 switched_on='change d (assign n) a b c =
-        let added = setTable d n (addTo (d .row n) b a) in
-        elim (eqb n rolesOf && eqb (d .row active b) 0) [ true ↦ setActive added a b | false ↦ added ]'
+        let added = set_table d n (add_to (d.row n) b a) in
+        elim (eqb n roles_of && eqb (d.row active b) 0) [ true ↦ set_active added a b | false ↦ added ]'
 switch "a role made active for a person who acts in none, as document 01 had it" Requests.antt \
-    'change d (assign n) a b c = setTable d n (addTo (d .row n) b a)' "$switched_on" Staff freeRole
+    'change d (assign n) a b c = set_table d n (add_to (d.row n) b a)' "$switched_on" Staff free_role
 switch "nobody acting in a role that is taken back" Requests.antt \
-    'change d (takeBack n) a b c = setTable d n (takeFrom (d .row n) b a)' \
-    'change d (takeBack n) a b c =
-        let less = setTable d n (takeFrom (d .row n) b a) in
-        elim (eqb n rolesOf && eqb (d .row active b) (suc a)) [ true ↦ setTable less active (setRow (d .row active) b 0) | false ↦ less ]' \
-    Staff roleBack
+    'change d (take_back n) a b c = set_table d n (take_from (d.row n) b a)' \
+    'change d (take_back n) a b c =
+        let less = set_table d n (take_from (d.row n) b a) in
+        elim (eqb n roles_of && eqb (d.row active b) (suc a)) [ true ↦ set_table less active (set_row (d.row active) b 0) | false ↦ less ]' \
+    Staff role_back
 
 stays "the bit of kinds 8 to 10 set twice" Requests.antt \
-    'setTable d n (addTo (d .row n) b a)' 'setTable d n (addTo (addTo (d .row n) b a) b a)' Staff freeRole
+    'set_table d n (add_to (d.row n) b a)' 'set_table d n (add_to (add_to (d.row n) b a) b a)' Staff free_role
 
 # ---- The order of clicking, and what is taken back (M-102)
 
 disorder "a role made active for a person who acts in none" Requests.antt \
-    'change d (assign n) a b c = setTable d n (addTo (d .row n) b a)' "$switched_on" Lists twoRoles
+    'change d (assign n) a b c = set_table d n (add_to (d.row n) b a)' "$switched_on" Lists two_roles
 disorder "a pair set in one direction only" Requests.antt \
-    'addPair rows a b = addTo (addTo rows a b) b a' 'addPair rows a b = addTo rows a b' Lists chainedPairs
+    'add_pair rows a b = add_to (add_to rows a b) b a' 'add_pair rows a b = add_to rows a b' Lists chained_pairs
 disorder "22 left out of kind 5, and 21 asked of kind 4 all the same" Numbers.antt \
-    'selfConstraint ∷ alreadySme ∷ oneSubjectGroup' 'selfConstraint ∷ oneSubjectGroup' Lists bothExclusions
+    'self_constraint ∷ already_sme ∷ one_subject_group' 'self_constraint ∷ one_subject_group' Lists both_exclusions
 trace "a role made active for a person who acts in none" Requests.antt \
-    'change d (assign n) a b c = setTable d n (addTo (d .row n) b a)' "$switched_on" Lists twoRoles
+    'change d (assign n) a b c = set_table d n (add_to (d.row n) b a)' "$switched_on" Lists two_roles
 trace "one bit of a pair taken back and not the other" Requests.antt \
-    'takePair rows a b = takeFrom (takeFrom rows b a) a b' 'takePair rows a b = takeFrom rows a b' Lists twoPairs
+    'take_pair rows a b = take_from (take_from rows b a) a b' 'take_pair rows a b = take_from rows a b' Lists two_pairs
 
 order "the bit of kinds 8 to 10 set twice" Requests.antt \
-    'setTable d n (addTo (d .row n) b a)' 'setTable d n (addTo (addTo (d .row n) b a) b a)' Lists twoRoles
+    'set_table d n (add_to (d.row n) b a)' 'set_table d n (add_to (add_to (d.row n) b a) b a)' Lists two_roles
 order "the two bits of a pair set in the other order" Requests.antt \
-    'addPair rows a b = addTo (addTo rows a b) b a' 'addPair rows a b = addTo (addTo rows b a) a b' Lists twoPairs
+    'add_pair rows a b = add_to (add_to rows a b) b a' 'add_pair rows a b = add_to (add_to rows b a) a b' Lists two_pairs
 no_trace "the two bits of a pair taken back in the other order" Requests.antt \
-    'takePair rows a b = takeFrom (takeFrom rows b a) a b' 'takePair rows a b = takeFrom (takeFrom rows a b) b a' Lists twoPairs
+    'take_pair rows a b = take_from (take_from rows b a) a b' 'take_pair rows a b = take_from (take_from rows a b) b a' Lists two_pairs
 
 # ---- What 33 and 34 name (M-104)
 
-table=(SeveralOrders severalOrders)
-mistell "33 that names no order" Numbers.antt '(sayPair n (f p) p)' '(sayPair n (f p) 0)'
+table=(SeveralOrders several_orders)
+mistell "33 that names no order" Numbers.antt '(say_pair n (f p) p)' '(say_pair n (f p) 0)'
 mistell "33 that names the highest order" Numbers.antt \
-    'let p = lowest (hasPair asked f) in' \
-    'let q = lowest (λ p. hasPair asked f (63 - p)) in
+    'let p = lowest (has_pair asked f) in' \
+    'let q = lowest (λ p. has_pair asked f (63 - p)) in
         let p : ℕ = elim (ltb q 64) [ true ↦ 63 - q | false ↦ 64 ] in'
 mistell "33 with x the lowest that is held in any order" Numbers.antt \
-    'heldSme c d a b = givenLowestPair 33 (isOpen d) (holds SME d c (subjectHand d a b))' \
-    'heldSme c d a b rest =
-        let p = lowest (hasPair (isOpen d) (holds SME d c (subjectHand d a b))) in
-        let held = masks.joined 64 (λ p. only (isOpen d p) (heldBy d p c)) (2 ^ 64 - 1) in
-        given (ltb p 64) (sayPair 33 (between (d .row SME) held (subjectHand d a b)) p) rest'
+    'held_sme c d a b = given_lowest_pair 33 (is_open d) (holds SME d c (subject_hand d a b))' \
+    'held_sme c d a b rest =
+        let p = lowest (has_pair (is_open d) (holds SME d c (subject_hand d a b))) in
+        let held = masks.joined 64 (λ p. only (is_open d p) (held_by d p c)) (2 ^ 64 - 1) in
+        given (ltb p 64) (say_pair 33 (between (d.row SME) held (subject_hand d a b)) p) rest'
 mistell "33 and 34 with the highest partner" Numbers.antt \
-    'sayXYZ n i (lowest (f i)) z' 'sayXYZ n i (63 - lowest (λ v. f i (63 - v))) z'
+    'say_xyz n i (lowest (f i)) z' 'say_xyz n i (63 - lowest (λ v. f i (63 - v))) z'
 mistell "33 and 34 with the lowest partner of anything that is held" Numbers.antt \
-    'sayXYZ n i (lowest (f i)) z' 'sayXYZ n i (lowest (λ v. ltb (lowest (λ u. f u v)) 64)) z'
+    'say_xyz n i (lowest (f i)) z' 'say_xyz n i (lowest (λ v. ltb (lowest (λ u. f u v)) 64)) z'
 mistell "33 and 34 of a partner in whose row the held task is" Numbers.antt \
-    'between (d .row n) (heldBy d p c) hand' '(λ u v. between (d .row n) hand (heldBy d p c) v u)'
-mistell "33 after 34" Numbers.antt 'heldSme c ∷ heldDme c ∷ []' 'heldDme c ∷ heldSme c ∷ []'
-mistell "34 that names no order" Numbers.antt 'givenPairIn 34 (holds DME d c (subjectHand d a b) b) b' 'givenPairIn 34 (holds DME d c (subjectHand d a b) b) 0'
-tell "33 with a test that adds nothing" Numbers.antt 'given (ltb p 64) (sayPair n (f p) p)' 'given (ltb p 64 && true) (sayPair n (f p) p)'
+    'between (d.row n) (held_by d p c) hand' '(λ u v. between (d.row n) hand (held_by d p c) v u)'
+mistell "33 after 34" Numbers.antt 'held_sme c ∷ held_dme c ∷ []' 'held_dme c ∷ held_sme c ∷ []'
+mistell "34 that names no order" Numbers.antt \
+    'given_pair_in 34 (holds DME d c (subject_hand d a b) b) b' 'given_pair_in 34 (holds DME d c (subject_hand d a b) b) 0'
+tell "33 with a test that adds nothing" Numbers.antt 'given (ltb p 64) (say_pair n (f p) p)' 'given (ltb p 64 && true) (say_pair n (f p) p)'
 
 # ---- What 31 and 32 name (M-105)
 
-table=(WholeClash wholeClash)
+table=(WholeClash whole_clash)
 mistell "31 and 32 with the lowest task, as document 01 had it" Numbers.antt \
-    '(sayXY n i (f i)) rest' '(sayXY n i (lowest (bit (f i)))) rest'
+    '(say_xy n i (f i)) rest' '(say_xy n i (lowest (bit (f i)))) rest'
 mistell "31 and 32 with the lowest task's bit alone" Numbers.antt \
-    '(sayXY n i (f i)) rest' '(sayXY n i (2 ^ lowest (bit (f i)))) rest'
+    '(say_xy n i (f i)) rest' '(say_xy n i (2 ^ lowest (bit (f i)))) rest'
 mistell "31 and 32 with the clashes of all owners together" Numbers.antt \
-    '(sayXY n i (f i)) rest' '(sayXY n i (masks.joined 64 f (2 ^ 64 - 1))) rest'
+    '(say_xy n i (f i)) rest' '(say_xy n i (masks.joined 64 f (2 ^ 64 - 1))) rest'
 mistell "31 and 32 with the mask of the highest owner" Numbers.antt \
-    '(sayXY n i (f i)) rest' '(sayXY n i (f (63 - lowest (λ o. hasSome f (63 - o))))) rest'
+    '(say_xy n i (f i)) rest' '(say_xy n i (f (63 - lowest (λ o. has_some f (63 - o))))) rest'
 mistell "31 and 32 that name the highest owner" Numbers.antt \
-    '(sayXY n i (f i)) rest' '(sayXY n (63 - lowest (λ o. hasSome f (63 - o))) (f i)) rest'
+    '(say_xy n i (f i)) rest' '(say_xy n (63 - lowest (λ o. has_some f (63 - o))) (f i)) rest'
 mistell "31 and 32 with the gained tasks instead of the owned ones" Numbers.antt \
     'picked (λ t. meet (sme t) gain) owned' 'picked (λ t. meet (sme t) owned) gain'
 mistell "31 and 32 with all that the owner owns" Numbers.antt \
@@ -330,19 +335,19 @@ tell "31 and 32 with a test that adds nothing" Numbers.antt \
 
 # ---- Written another way
 
-same "20 with a test that adds nothing" Numbers.antt 'given (eqb a b) (say 20' 'given (eqb b a || false) (say 20' Pairs ownBinding
+same "20 with a test that adds nothing" Numbers.antt 'given (eqb a b) (say 20' 'given (eqb b a || false) (say 20' Pairs own_binding
 same "the two bits of a pair taken back in the other order" Requests.antt \
-    'takePair rows a b = takeFrom (takeFrom rows b a) a b' 'takePair rows a b = takeFrom (takeFrom rows a b) b a' PairsBack dmeBack
-same "25 and 26 with their two tests swapped" Numbers.antt 'bit mine a && bit mine b' 'bit mine b && bit mine a' Pairs roleOwns
+    'take_pair rows a b = take_from (take_from rows b a) a b' 'take_pair rows a b = take_from (take_from rows a b) b a' PairsBack dme_back
+same "25 and 26 with their two tests swapped" Numbers.antt 'bit mine a && bit mine b' 'bit mine b && bit mine a' Pairs role_owns
 same "27 and 28 with their three tests in another order" Numbers.antt \
-    'bit xs u && (bit (rows u) v && bit ys v)' '(bit ys v && bit xs u) && bit (rows u) v' Pairs chainedSme
-same "31 and 32 with the two sides of a meeting swapped" Numbers.antt 'meet (sme t) gain' 'meet gain (sme t)' Staff seniorGains
+    'bit xs u && (bit (rows u) v && bit ys v)' '(bit ys v && bit xs u) && bit (rows u) v' Pairs chained_sme
+same "31 and 32 with the two sides of a meeting swapped" Numbers.antt 'meet (sme t) gain' 'meet gain (sme t)' Staff senior_gains
 same "33 and 34 with the two sides swapped" Numbers.antt \
-    'eqb (subjectIn (d .cell b t)) (suc c)' 'eqb (suc c) (subjectIn (d .cell b t))' Orders heldDme
-same "the role group with its two tables swapped" Trade.antt 'group (mixed d SB RB) t' 'group (mixed d RB SB) t' Pairs mixedChain
-same "rule 3 with its two tables swapped" Audit.antt 'apart (d .row SME) (d .row DME)' 'apart (d .row DME) (d .row SME)' Pairs alsoDme
+    'eqb (subject_in (d.cell b t)) (suc c)' 'eqb (suc c) (subject_in (d.cell b t))' Orders held_dme
+same "the role group with its two tables swapped" Trade.antt 'group (mixed d SB RB) t' 'group (mixed d RB SB) t' Pairs mixed_chain
+same "rule 3 with its two tables swapped" Audit.antt 'apart (d.row SME) (d.row DME)' 'apart (d.row DME) (d.row SME)' Pairs also_dme
 same "rule 9 with a test that is always true" Audit.antt \
-    'handsApart d s = pairFree (d .row SME) (heldAnywhere d s)' 'handsApart d s = true && pairFree (d .row SME) (heldAnywhere d s)' Orders heldElsewhere
+    'hands_apart d s = pair_free (d.row SME) (held_anywhere d s)' 'hands_apart d s = true && pair_free (d.row SME) (held_anywhere d s)' Orders held_elsewhere
 
 wait
 for n in $(seq "$bent_count"); do

@@ -9,7 +9,7 @@ example_prints() { # NAME
 
 # The names that the archive takes from outside, by what the kit's linker misses where it is given nothing else.
 taken_from_outside() {
-    "$(dirname "$(dirname "$(rt doc)")")/on/$(uname -m)/toolchain/bin/ld.lld" -e towerplank_request --whole-archive "$1" -o target/alone 2>&1 |
+    "$(dirname "$(rt doc)")/toolchain/bin/ld.lld" -e towerplank_request --whole-archive "$1" -o target/alone 2>&1 |
         sed -n 's/.*undefined symbol: //p' | sort -u
 }
 

@@ -4,7 +4,7 @@ type holds >/dev/null 2>&1 || . "$(dirname "${BASH_SOURCE[0]}")/alone"
 built replay
 
 edge() { # SENTENCE STREAM EXPECTED: the engine answers the stream so
-    holds "$1" test "$(printf '%b' "$2" | tools/run-program target/bin/replay)" = "$(printf '%b' "$3")"
+    holds "$1" test "$(printf '%b' "$2" | tools/run-program crates/replay/out/replay)" = "$(printf '%b' "$3")"
 }
 
 most=18446744073709551615

@@ -15,38 +15,38 @@ told() { # STATUS MESSAGE: the program ended with that status, and said that alo
 }
 
 reads_directory() { # PROGRAM
-    tools/run-program "target/bin/$1" <. >"$failures_room/output" 2>"$failures_room/errors"
+    tools/run-program "crates/$1/out/$1" <. >"$failures_room/output" 2>"$failures_room/errors"
     failures_status=$?
     told 3 "$1: the input can't be read"
 }
 
 reads_closed() { # PROGRAM
-    tools/run-program "target/bin/$1" <&- >"$failures_room/output" 2>"$failures_room/errors"
+    tools/run-program "crates/$1/out/$1" <&- >"$failures_room/output" 2>"$failures_room/errors"
     failures_status=$?
     told 3 "$1: the input can't be read"
 }
 
 fills_up() { # PROGRAM LINE COUNT: the line so many times, to a device that is full
-    yes "$2" 2>/dev/null | head -n "$3" | tools/run-program "target/bin/$1" >/dev/full 2>"$failures_room/errors"
+    yes "$2" 2>/dev/null | head -n "$3" | tools/run-program "crates/$1/out/$1" >/dev/full 2>"$failures_room/errors"
     failures_status=${PIPESTATUS[2]}
     told 3 "$1: the output can't be written"
 }
 
 writes_closed() { # PROGRAM LINE
-    echo "$2" | tools/run-program "target/bin/$1" 2>"$failures_room/errors" >&-
+    echo "$2" | tools/run-program "crates/$1/out/$1" 2>"$failures_room/errors" >&-
     failures_status=${PIPESTATUS[1]}
     told 3 "$1: the output can't be written"
 }
 
 # The input has no end, so that nothing but the closed pipe ends the program.
 ends_quietly() { # PROGRAM LINE
-    yes "$2" 2>/dev/null | timeout 300 tools/run-program "target/bin/$1" 2>"$failures_room/errors" | head -n 1 >"$failures_room/output"
+    yes "$2" 2>/dev/null | timeout 300 tools/run-program "crates/$1/out/$1" 2>"$failures_room/errors" | head -n 1 >"$failures_room/output"
     failures_status=${PIPESTATUS[1]}
     told 141 '' && [ -s "$failures_room/output" ]
 }
 
 goes_well() { # PROGRAM LINE
-    echo "$2" | tools/run-program "target/bin/$1" >"$failures_room/output" 2>"$failures_room/errors"
+    echo "$2" | tools/run-program "crates/$1/out/$1" >"$failures_room/output" 2>"$failures_room/errors"
     failures_status=${PIPESTATUS[1]}
     told 0 '' && [ -s "$failures_room/output" ]
 }

@@ -2,7 +2,7 @@
 # Rattle side. Sourced by .ci/run, or run by itself.
 #
 # What it reads of the Rattle side, and in what form; where it finds nothing it fails and says so:
-#   crates/rules/specs/Book.antt      the line `bookWords = COUNT`
+#   crates/rules/specs/Book.antt      the line `book_words = COUNT`
 #   crates/answers/src/lib.rt         the arms `Answer::CASE .. => say(NUMBER ..` of `told`, or say_x, say_xy, ..
 #   crates/rules/specs/Requests.antt  the rows `asks DEED NEED NEED NEED` of `table`
 #   crates/rules/specs/Audit.antt     the rows of `rules`, after the one that is no rule
@@ -14,7 +14,7 @@ room=$(mktemp -d)
 # ---- it compiles
 
 strict='-Wall -Wextra -Wpedantic -Wconversion -Wsign-conversion -Werror'
-kit_clang=$(dirname "$(dirname "$(rt doc)")")/on/$(uname -m)/toolchain/bin/clang
+kit_clang=$(dirname "$(rt doc)")/toolchain/bin/clang
 
 takes_header() { # LANGUAGE STANDARDS COMPILER..: hosted, and freestanding
     language=$1 standards=$2
@@ -66,7 +66,7 @@ prints_same_lists() { # LANGUAGE COMPILER: the lists, compiled for this machine;
 
 same_words() {
     sed -n 's/^words //p' "$room/lists" >"$room/header"
-    sed -n 's/^bookWords = //p' crates/rules/specs/Book.antt >"$room/rattle"
+    sed -n 's/^book_words = //p' crates/rules/specs/Book.antt >"$room/rattle"
     same_list
 }
 
@@ -89,11 +89,11 @@ same_kinds_listed() {
     awk '$1 == "kind" { for (i = 4; i < NF; i++) if ($(i + 1) ~ /^[abc]$/ && $i ~ /^(task|role|person|order|mask)$/) print $2, $(i + 1), $i }' "$room/lists" |
         sort -k 1,1n -k 2 >"$room/header"
     sed -n '/^table =/,/\[\]/p' crates/rules/specs/Requests.antt | awk '
-        BEGIN { is["aTask"] = "task"; is["aRole"] = "role"; is["aSubject"] = "person"; is["anOpenOrder"] = "order"; is["aTaskMask"] = "mask" }
+        BEGIN { is["a_task"] = "task"; is["a_role"] = "role"; is["a_subject"] = "person"; is["an_open_order"] = "order"; is["a_task_mask"] = "mask" }
         sub(/.*asks /, "") {
             kind++
             # Where only the range is asked, the deed says what it is that is not there yet.
-            is["inRange"] = /^openOrder/ ? "order" : /^\(define 0\)/ ? "task" : /^\(define 1\)/ ? "role" : "person"
+            is["in_range"] = /^open_order/ ? "order" : /^\(define 0\)/ ? "task" : /^\(define 1\)/ ? "role" : "person"
             for (i = 0; i < 3; i++) if ($(NF - i) != "unused") print kind, substr("cba", i + 1, 1), is[$(NF - i)]
         }' | sort -k 1,1n -k 2 >"$room/rattle"
     same_list
@@ -159,14 +159,14 @@ take-sb 0 2
 SHIFT
 
 panel_words() {
-    [ -x target/bin/panel ] || rt check panel >"$room/told" 2>&1 || return 1
+    built panel
     awk 'FNR == NR && $1 == "kind" { word = tolower($3); gsub("_", "-", word); number[word] = $2; next }
         FNR == NR { next }
         !($1 in number) { print "no kind of the header: " $1 >"/dev/stderr"; exit 1 }
         { left[$1] = 1; $1 = number[$1]; print }
         END { for (word in number) if (!(word in left)) { print "not played: " word >"/dev/stderr"; exit 1 } }' "$room/lists" "$room/words" >"$room/numbers" &&
-        tools/run-program target/bin/panel <"$room/words" >"$room/by-word" &&
-        tools/run-program target/bin/panel <"$room/numbers" >"$room/by-number" &&
+        tools/run-program crates/panel/out/panel <"$room/words" >"$room/by-word" &&
+        tools/run-program crates/panel/out/panel <"$room/numbers" >"$room/by-number" &&
         [ "$(grep -c '^[0-9]*: 0 0 0 0  accepted' "$room/by-word")" -eq "$(wc -l <"$room/words")" ] &&
         diff "$room/by-word" "$room/by-number"
 }

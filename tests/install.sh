@@ -127,35 +127,39 @@ holds "stopped in the middle, what it had made is gone again" stopped_leaves_not
 # ---- when the library is proved and built
 
 # A repository with one file, and an rt that says in the file `asked` that it was asked, and then does as it is told.
-mkdir -p "$room/one/tools" "$room/one/crates/book" "$room/kit"
+mkdir -p "$room/one/tools" "$room/one/crates/book/src" "$room/one/crates/towerplank_c/src" "$room/kit"
 cp tools/library "$room/one/tools"
 : >"$room/one/crates.txt"
-: >"$room/one/crates/book/lib.rt"
+: >"$room/one/crates/book/src/lib.rt"
 rt_does() { # COMMANDS
     printf '#!/bin/sh\necho "$@" >>asked\n%s\n' "$1" >"$room/kit/rt"
     chmod +x "$room/kit/rt"
 }
 asks_rt() { # yes|no: tools/library asks rt or doesn't, and prints the path of the archive
-    rm -f "$room/one/asked"
+    rm -f "$room/one/crates/towerplank_c/asked"
     printed=$(PATH=$room/kit:$PATH "$room/one/tools/library" 2>"$room/message") && [ "$printed" = "$room/one/target/staticlib/libtowerplank.a" ] &&
-        case $1 in yes) grep -qx 'staticlib towerplank' "$room/one/asked" ;; *) [ ! -e "$room/one/asked" ] ;; esac
+        case $1 in
+        yes) grep -qx 'lib --cpu=x86-64' "$room/one/crates/towerplank_c/asked" && [ "$(cat "$printed")" = archive ] ;;
+        *) [ ! -e "$room/one/crates/towerplank_c/asked" ] ;;
+        esac
 }
 fails_with_rt() { ! asks_rt yes 2>/dev/null && grep -q 'the library is not built' "$room/message"; }
 # Times are compared to the second in places: what is to be newer is made so.
 newer() { touch -d '+2 seconds' "$1"; }
+builds='mkdir -p out; echo archive >out/libtowerplank_c.a'
 
-rt_does 'echo archive >target/staticlib/libtowerplank.a'
+rt_does "$builds"
 holds "tools/library builds the archive where there is none" asks_rt yes
 holds "it builds nothing where nothing has changed" asks_rt no
-newer "$room/one/crates/book/lib.rt"
-rt_does 'echo half >target/staticlib/libtowerplank.a; exit 1'
+newer "$room/one/crates/book/src/lib.rt"
+rt_does 'mkdir -p out; echo half >out/libtowerplank_c.a; exit 1'
 holds "a build that fails is told" fails_with_rt
 holds "what it left is not trusted" fails_with_rt
-rt_does 'echo archive >target/staticlib/libtowerplank.a'
+rt_does "$builds"
 holds "a file of a crate that is newer has it built again" asks_rt yes
 find "$room/one/crates" "$room/one/crates.txt" -exec touch -d '-1 hour' {} +
 holds ".. and then no more" asks_rt no
-rm "$room/one/crates/book/lib.rt"
-newer "$room/one/crates/book"
+rm "$room/one/crates/book/src/lib.rt"
+newer "$room/one/crates/book/src"
 holds "a file that is gone has it built again" asks_rt yes
 rm -rf "$room"

@@ -20,7 +20,7 @@ leaves_room() {
 look_at() { # NAME FLAGS..: what tools/machine-code tells of tests/c/NAME.c
     name=$1
     shift
-    toolchain=$(dirname "$(dirname "$(rt doc)")")/on/$(uname -m)/toolchain/bin
+    toolchain=$(dirname "$(rt doc)")/toolchain/bin
     "$toolchain/clang" --target=x86_64-unknown-linux-gnu -O3 "$@" -nostdinc -isystem tools/c -c -o "$room/$name.o" "tests/c/$name.c" &&
         "$toolchain/llvm-ar" rcs "$room/$name.a" "$room/$name.o" && tools/machine-code "$room/$name.a"
 }

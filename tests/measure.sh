@@ -10,10 +10,10 @@ holds "the library and hand-written C agree on every request that is measured or
     grep -q 'were put to both: 0 were answered or carried out differently' "$measured/answers"
 grep -E '^- ' "$measured/answers"
 
-# A processor without tzcnt runs the library's as bsf. Where programs run under the kit's emulator, that can be one.
-emulator=$(dirname "$(dirname "$(rt doc)")")/on/$(uname -m)/toolchain/bin/qemu-x86_64
-if [ -x "$emulator" ]; then
-    QEMU_CPU=qemu64 tools/run-program target/measure answers >"$measured/older" 2>&1
+# A processor without tzcnt runs the library's as bsf. Where there is an emulator, that can be one.
+if command -v qemu-x86_64 >/dev/null; then
+    libraries=$(dirname "$(rt doc)")/toolchain/lib
+    QEMU_CPU=qemu64 qemu-x86_64 "$libraries/ld-linux-x86-64.so.2" --library-path "$libraries" target/measure answers >"$measured/older" 2>&1
     holds "and they do so on a processor without tzcnt" \
         grep -q 'were put to both: 0 were answered or carried out differently' "$measured/older"
 else

@@ -47,9 +47,9 @@ code without a contract: no change
 laws: no change
 proofs of functions: no change
 must-fail edits: no change
-crates: 4 with no change
+crates: 5 with no change
   with no change
-    sets, book, new, talk
+    sets, book, book_c, new, talk
 in all: no change; of the sentences before, others now: 0, gone: 0
 END
 holds "between a commit and itself nothing moved" tells book after HEAD "$room/nothing"

@@ -23,7 +23,7 @@ done
 
 plays() { # PROGRAM EXAMPLE
     # shellcheck disable=SC2046
-    tools/run-program "target/bin/$1" $(cat "${2%.*}.options") <"$2" | diff - "${2%.*}.out"
+    tools/run-program "crates/$1/out/$1" $(cat "${2%.*}.options") <"$2" | diff - "${2%.*}.out"
 }
 
 for example in "$examples"/*.shift "$examples"/*.stream; do

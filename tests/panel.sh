@@ -5,10 +5,11 @@ type holds >/dev/null 2>&1 || . "$(dirname "${BASH_SOURCE[0]}")/alone"
 
 room=$(mktemp -d)
 
-# ---- tools/panel alone: a repository of stand-ins. rt says in the file `asked` that it was asked and then does as it is told; the
-# ---- program ends with the status that its shift consists of.
+# ---- tools/panel alone: a repository of stand-ins. rt says in the file `asked` of the crate that it was asked and then does as it is
+# ---- told; the program ends with the status that its shift consists of.
 
 repo=$room/repo
+asked=$repo/crates/panel/asked
 mkdir -p "$repo/tools" "$repo/crates/panel/src" "$repo/crates/book/src" "$repo/crates/other/src" "$room/kit"
 cp tools/panel "$repo/tools"
 printf '# Crates.\nbook:\nother: book\npanel: book io\n' >"$repo/crates.txt"
@@ -21,12 +22,12 @@ rt_does() { # COMMANDS
     chmod +x "$room/kit/rt"
 }
 stand_in() { PATH=$room/kit:$PATH "$repo/tools/panel" "$@" >"$room/out" 2>"$room/message"; } # WORDS..
-builds='mkdir -p target/bin; : >target/bin/panel; chmod +x target/bin/panel'
+builds='mkdir -p out; : >out/panel; chmod +x out/panel'
 
 asks_rt() { # yes|no
-    rm -f "$repo/asked"
+    rm -f "$asked"
     stand_in </dev/null && grep -qx 'played ' "$room/out" || return 1
-    case $1 in yes) grep -qx 'check panel' "$repo/asked" ;; *) [ ! -e "$repo/asked" ] && [ ! -s "$room/message" ] ;; esac
+    case $1 in yes) grep -qx 'run' "$asked" ;; *) [ ! -e "$asked" ] && [ ! -s "$room/message" ] ;; esac
 }
 # Times are compared to the second in places: what is to be newer is made so.
 newer() { touch -d '+2 seconds' "$1"; }
@@ -34,21 +35,22 @@ settled() { find "$repo/crates" "$repo/crates.txt" -exec touch -d '-1 hour' {} +
 
 isnt_proved() { # status 4, a message, and no program that is trusted afterwards
     stand_in </dev/null
-    [ $? -eq 4 ] && [ ! -s "$room/out" ] && grep -q "the panel isn't proved" "$room/message" && grep -q 'rt: book NOT PROVED' "$room/message"
+    [ $? -eq 4 ] && [ ! -s "$room/out" ] && grep -q "the panel isn't proved" "$room/message" &&
+        grep -q 'rt: the library book did not build' "$room/message"
 }
 
 refuses() { # MESSAGE WORDS..: status 2, the message and the usage on standard error, nothing else, and rt is not asked
     message=$1
     shift
-    rm -f "$repo/asked"
+    rm -f "$asked"
     stand_in "$@" </dev/null
-    [ $? -eq 2 ] && [ ! -s "$room/out" ] && [ ! -e "$repo/asked" ] &&
+    [ $? -eq 2 ] && [ ! -s "$room/out" ] && [ ! -e "$asked" ] &&
         [ "$(cat "$room/message")" = "tools/panel: $message
 usage: tools/panel [--json] [--strict] [--help] [SHIFT ..]" ]
 }
 helps() {
-    rm -f "$repo/asked"
-    stand_in --json --help && [ ! -s "$room/message" ] && grep -q '^usage: tools/panel' "$room/out" && [ ! -e "$repo/asked" ]
+    rm -f "$asked"
+    stand_in --json --help && [ ! -s "$room/message" ] && grep -q '^usage: tools/panel' "$room/out" && [ ! -e "$asked" ]
 }
 
 rt_does 'exit 1'
@@ -59,7 +61,7 @@ holds "a folder is refused" refuses "$room is a folder, not a file" "$room"
 holds "an empty name is refused" refuses 'there is no file ' ''
 holds "--help helps, and proves nothing" helps
 
-rt_does "$builds; echo 'rt: book NOT PROVED (exit 1, 2 s)'; exit 1"
+rt_does "$builds; echo 'rt: the library book did not build, so nothing above it was checked'; exit 1"
 holds "a panel that isn't proved is not played, status 4" isnt_proved
 holds "what it left is not trusted" isnt_proved
 rt_does "$builds"
@@ -80,23 +82,24 @@ settled
 newer "$repo/crates.txt"
 holds "a newer crates.txt is noticed" asks_rt yes
 settled
-rm "$repo/target/bin/panel"
+rm "$repo/crates/panel/out/panel"
 holds "a program that is gone is noticed" asks_rt yes
 
 # While it proves: how far it is, a line for some ten crates where nobody sits before it.
 tells_progress() {
-    rm "$repo/target/bin/panel"
-    rt_does "for i in 1 2 3 4 5 6 7 8 9 10 11 12; do echo \"rt: crate\$i proved (1 s)\"; done; sleep 2; $builds"
+    rm "$repo/crates/panel/out/panel"
+    rt_does "for i in 1 2 3 4 5 6 7 8 9 10 11 12; do echo \"logic=proved functions=\$i\"; done; sleep 2; $builds"
     stand_in </dev/null && grep -qE '^proving the panel: 12 of 2 crates, [0-9]+ s$' "$room/message"
 }
 # Stopped while it proves: the prover and what it began end, no stamp is left.
 stops() {
-    rm -f "$repo/target/bin/panel" "$repo/asked" "$repo/prover"
+    prover=$repo/crates/panel/prover
+    rm -f "$repo/crates/panel/out/panel" "$asked" "$prover"
     rt_does 'sleep 300 & echo "$$ $!" >prover; wait'
     PATH=$room/kit:$PATH "$repo/tools/panel" </dev/null >"$room/out" 2>"$room/message" &
     script=$!
-    for _ in $(seq 40); do [ -s "$repo/prover" ] || sleep 0.5; done
-    read -r one two <"$repo/prover" || one='' two=''
+    for _ in $(seq 40); do [ -s "$prover" ] || sleep 0.5; done
+    read -r one two <"$prover" || one='' two=''
     kill -TERM "$script"
     wait "$script"
     [ $? -eq 143 ] && grep -q 'stopped while proving' "$room/message" && [ ! -e "$repo/target/panel/built.began" ] || return 1
@@ -135,7 +138,7 @@ holds "a shift that a signal ended ends the rest" stops_at_a_signal
 # ---- the panel itself
 
 tools/panel </dev/null >"$room/out"
-panel() { tools/run-program target/bin/panel "$@"; }
+panel() { tools/run-program crates/panel/out/panel "$@"; }
 
 says() { # SENTENCE SHIFT EXPECTED: what is printed for the shift, the audit at its end not counted
     holds "$1" test "$(printf '%b' "$2" | panel)" = "$(printf '%b' "$3\nend: 0 0 0  audit: all ten rules hold")"

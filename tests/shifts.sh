@@ -1,9 +1,10 @@
 # The worked shifts: each is played at the panel, and what it prints is what stands beside it. Sourced by .ci/run, or called alone.
 type holds >/dev/null 2>&1 || . "$(dirname "${BASH_SOURCE[0]}")/alone"
 built panel
+mkdir -p target
 
 for shift in shifts/*.txt; do
-    tools/run-program target/bin/panel <"$shift" >target/printed
+    tools/run-program crates/panel/out/panel <"$shift" >target/printed
     holds "the shift $(basename "$shift" .txt) prints what stands beside it" cmp target/printed "${shift%.txt}.out"
 done
 # Where the comment behind a request begins with an answer, its number or all four or the word accepted, that is what the line is answered. A
@@ -46,6 +47,6 @@ one_book() { [ "$(shown_table 2)" = "$(shown_table 4)" ] && [ "$(shown_table 1)"
 holds "the two foremen click one list, each in an order of their own" one_list_in_two_orders
 holds "their books are the same, and taken back the list leaves no trace" one_book
 
-sh shifts/megabyte.sh | tools/run-program target/bin/panel >target/printed
+sh shifts/megabyte.sh | tools/run-program crates/panel/out/panel >target/printed
 holds "lines of a megabyte are told, and the shift goes on" cmp target/printed shifts/megabyte.out
 rm -f target/printed

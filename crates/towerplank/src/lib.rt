@@ -1,5 +1,5 @@
-// The static library for a controller in C: a request and the audit on lent words, with the answer in four lent words.
-// include/towerplank.h declares both. Neither entry asks anything of its caller's numbers.
+// The two entries for a controller in C: a request and the audit on lent words, with the answer in four lent words. The crate towerplank_c
+// exports both, and include/towerplank.h declares them. Neither entry asks anything of its caller's numbers.
 #![tactic(auto)]
 
 ghost use Rattle.std.specs.Prelude.{◌≡◌};
@@ -16,8 +16,7 @@ fn put(answer: &mut [u64; 4], reply: Reply)
 }
 
 // One request on a lent book: the answer's number, x, y and z, and the change in place where the number is 0.
-#[unsafe(no_mangle)]
-pub extern "C" fn towerplank_request(
+pub fn towerplank_request(
     book: &mut [u64],
     kind: u64,
     a: u64,
@@ -32,8 +31,7 @@ pub extern "C" fn towerplank_request(
 }
 
 // The audit of a lent book, which it only reads.
-#[unsafe(no_mangle)]
-pub extern "C" fn towerplank_audit(book: &[u64], answer: &mut [u64; 4])
+pub fn towerplank_audit(book: &[u64], answer: &mut [u64; 4])
     ensures { ToldAudit book.now answer.new }
 {
     let reply = answers::told_finding(audit::audit(book));
