@@ -188,7 +188,7 @@ def new_names(run, function):
     """The names that a function's proof lacks, each with the nearest that there is."""
     found = []
     for error in run.errors.get(function, []):
-        if m := re.search(r"has no field `([^`]+)` \(nearest: \.([^)]+)\)", error):
+        if m := re.search(r"has no field `([^`]+)` \(nearest: \.([^),]+)", error):
             found.append((m[1], m[2]))
         elif m := re.search(r"Goals` has no `([^`]+)` that can be named", error):
             near = difflib.get_close_matches(m[1], run.goals.get(function, []), 1)
