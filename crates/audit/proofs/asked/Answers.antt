@@ -1,6 +1,5 @@
 -- Each arm of the match is a range of rules.
 use mathlib.Core.Path.{◌≡◌, ◌∙◌}
-use mathlib.Core.Logic.{⊎_elim}
 use Prim.Native.Nat.{ℕ, ◌≤◌, ◌<◌}
 use native.Mathlib.Omega.{arith}
 use native.Mathlib.Decide.{dec_lt}
@@ -9,6 +8,7 @@ use Rattle.rules.specs.Book.{Book, tasks, roles}
 use Rattle.book.specs.Slice.{tables}
 use Rattle.audit.specs.Asked.{asked_by}
 use Rattle.audit.proofs.asked.Goals as goal
+use Rattle.audit.proofs.asked.Goals.{in_default-via-then-rule-lt6, in_default-via-else-rule-lt6+else-rule-lt8}
 
 -- What is none of 6 to 8 is asked of the tasks.
 asked-tasks : (d : Book) (n : ℕ) → (6 ≤ n → 8 < n) → tasks d ≡ asked_by d n
@@ -36,5 +36,8 @@ returns-in-6-to-7 c =
 pub returns-in_default : goal.returns-in_default
 returns-in_default c =
     let s = c.args in
-    c.head-in_default.ensures ∙ asked-tasks (tables s.book.now) s.rule (λ h.
-    ⊎_elim (λ x. absurd (omega (arith, x.taken))) (λ x. omega (arith, x.1.left, c.in_default-1.rest)) c.in_default.branch)
+    c.head-in_default.ensures
+    ∙ elim c.in_default.branch [
+      in_default-via-then-rule-lt6 w ↦ asked-tasks (tables s.book.now) s.rule (λ h. absurd (omega arith))
+      | in_default-via-else-rule-lt6+else-rule-lt8 w ↦ asked-tasks (tables s.book.now) s.rule (λ h. omega arith)
+    ]

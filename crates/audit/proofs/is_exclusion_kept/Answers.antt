@@ -2,7 +2,6 @@
 use mathlib.Core.Path.{◌≡◌}
 use native.Mathlib.Omega.{arith}
 use Rattle.rules.specs.Audit.{apart, kept_at, rules}
-use borrow.Author.Rules.{rules}
 use Rattle.audit.proofs.is_exclusion_kept.Goals as goal
 
 pub returns-in-3 : goal.returns-in-3

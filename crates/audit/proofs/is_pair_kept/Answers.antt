@@ -2,7 +2,6 @@
 use mathlib.Core.Path.{◌≡◌, refl}
 use native.Mathlib.Omega.{arith}
 use Rattle.rules.specs.Audit.{kept_at, rules}
-use borrow.Author.Rules.{rules}
 use Rattle.audit.proofs.is_pair_kept.Goals as goal
 
 pub returns-in-1 : goal.returns-in-1

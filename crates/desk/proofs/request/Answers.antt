@@ -1,6 +1,7 @@
 -- Each return meets the guarantee: a refusal by its number, a request carried out by what its deed settled.
 use mathlib.Core.Path.{refl, sym, ◌∙◌}
 use native.Mathlib.Omega.{arith}
+use borrow.Author.Rules.{rules}
 use Rattle.rules.specs.Meaning.{Fits}
 use Rattle.book.specs.Slice.{words, Full}
 use Rattle.scan.proofs.FormedLaws.{scanned}
@@ -34,7 +35,7 @@ pub carry_out-requires : goal.carry_out-requires
 carry_out-requires c =
     let s = c.args in
     let found = c.first_bad-bad.ensures in
-    let fits : Fits (words s.book.now) = λ i. omega (arith, c.type_inv.book i) in
+    let fits : Fits (words s.book.now) = λ i h. search rules in
     (scanned s.book.now (omega arith) fits found (omega arith), sym c.argument_fault-fault.ensures ∙ c.if-fault-ne0.false)
 
 pub returns : goal.returns

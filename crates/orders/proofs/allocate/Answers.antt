@@ -2,6 +2,7 @@
 use mathlib.Core.Path.{sym, ◌∙◌}
 use native.Mathlib.Omega.{arith}
 use borrow.Author.Tests.{not-true, not-false}
+use borrow.Author.Rules.{rules}
 use Rattle.rules.proofs.BookLaws.{read_sized}
 use Rattle.book.specs.Slice.{words, tables, Full}
 use Rattle.deeds.proofs.OutcomeLaws.{settled_kept, settled_changed}
@@ -19,7 +20,7 @@ stamp-requires c =
     let s = c.args in
     let d = tables s.book.now in
     let sized = read_sized (words s.book.now)
-    (λ i h. (c.type_inv.book i).fits) in
+    (λ i h. search rules) in
     let yes = sym c.is_accepted.ensures ∙ c.if-not-is_accepted.false in
     let owned = allocated_owned d s.a s.b s.c
     c.judge_allocation-answer.ensures yes in

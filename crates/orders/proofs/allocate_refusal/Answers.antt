@@ -1,5 +1,6 @@
 -- Each answer from what has been read by then; the active role that is asked of the cell is owned, so it is a role.
-use mathlib.Core.Path.{sym, ◌∙◌}
+use mathlib.Core.Path.{sym, ap, ◌∙◌}
+use mathlib.Core.Bool.{not}
 use native.Mathlib.Omega.{arith}
 use borrow.Author.Tests.{not-false}
 use Rattle.rules.proofs.BookLaws.{read_sized}

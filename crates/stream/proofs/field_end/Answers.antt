@@ -1,4 +1,3 @@
-use Prim.Native.Nat.{◌-◌}
 use native.Mathlib.Omega.{arith}
 use Rattle.stream.proofs.StreamLaws.{ends_at_space, ends_at_end, goes_on}
 use Rattle.stream.proofs.field_end.Goals as goal

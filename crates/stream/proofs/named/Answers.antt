@@ -1,5 +1,6 @@
 -- The arm taken says which name it is.
 use mathlib.Core.Path.{sym}
+use native.Mathlib.Omega.{arith}
 use Rattle.stream.specs.Stream.{named}
 use Rattle.stream.proofs.StreamLaws.{no_name}
 use Rattle.stream.proofs.named.Goals as goal
@@ -21,4 +22,4 @@ unfolding named
 returns-in-97 c = rw c.in-97.is c.audit.ensures
 
 pub returns-in_default : goal.returns-in_default
-returns-in_default c = let r = c.in_default.in_default-own.rest in sym (no_name _ _ _ r.0.0.0.1 r.0.0.1 r.0.1 r.1)
+returns-in_default c = sym (no_name _ _ _ (omega arith) (omega arith) (omega arith) (omega arith))

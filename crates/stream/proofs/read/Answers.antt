@@ -1,7 +1,6 @@
 -- The name is the first byte, where a space stands behind it or nothing.
 use mathlib.Core.Path.{sym, ◌∙◌}
 use native.Mathlib.Omega.{arith}
-use borrow.Author.Tests.{not-true, not-false}
 use Rattle.stream.proofs.StreamLaws.{cut_off, all_there, blank, alone, two_bytes, in_front}
 use Rattle.stream.proofs.read.Goals as goal
 

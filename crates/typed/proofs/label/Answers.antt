@@ -1,6 +1,5 @@
 -- The word is no name, is taken, or is given.
 use mathlib.Core.Path.{ap, ◌∙◌}
-use borrow.Author.Tests.{not-true, not-false}
 use Rattle.typed.specs.declared.arguments.Reason.TheVariants.{TooFew}
 use Rattle.typed.specs.declared.Line.TheVariants.{Fault}
 use Rattle.typed.proofs.WordLaws.{starts}

@@ -1,7 +1,6 @@
 -- The first word is `tasks`, or a number.
 use mathlib.Core.Path.{sym, ◌∙◌}
 use Rattle.typed.proofs.ArgumentLaws.{mask_number, mask_listed, mask_bad_lem}
-use borrow.Author.Tests.{not-true, not-false}
 use Rattle.typed.proofs.arguments.mask.Goals as goal
 
 pub returns-then-not-is_tasks : goal.returns-then-not-is_tasks

@@ -1,0 +1,8 @@
+-- Behind the last word nothing is stored.
+use mathlib.Core.Path.{sym}
+use native.Mathlib.Omega.{arith}
+use lib.Seq.{set_out}
+use Rattle.replay.proofs.doing.store.Goals as goal
+
+pub returns-else-i-words : goal.returns-else-i-words
+returns-else-i-words c = sym (set_out _ _ _ (omega arith))
