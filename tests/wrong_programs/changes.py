@@ -7,7 +7,7 @@ import re
 from collections import namedtuple
 
 Token = namedtuple("Token", "kind text start end")
-Function = namedtuple("Function", "name params returns promised first last")
+Function = namedtuple("Function", "name params returns promised first last head", defaults=[0])  # head: where its `fn` stands
 Change = namedtuple("Change", "start end new kind")
 
 TOKEN = re.compile(
@@ -33,7 +33,7 @@ def blanked(text):
     promises = []
     for m in re.finditer(r"\bghost use [^;]*;", text):
         text = text[: m.start()] + re.sub(r"[^\n]", " ", m[0]) + text[m.end() :]
-    for m in re.finditer(r"^[ \t]*(requires|ensures|ghost)\s*\{", text, re.M):
+    for m in re.finditer(r"^[ \t]*(requires|ensures|ghost)\*?(?:[ \t]+\w+)?:?\s*\{", text, re.M):
         depth, end = 1, m.end()
         while depth:
             depth += {"{": 1, "}": -1}.get(text[end], 0)
@@ -105,14 +105,14 @@ class Source:
             params = [(self.at(a), self.words(a + 2, e)) for a, e in self.parts(i + 3, close) if self.at(a + 1) == ":"]
             returns = self.words(close + 2, body) if self.at(close + 1) == "->" else ""
             promised = any(t.start < p < self.tokens[body].start for p in self.promises)
-            found.append(Function(self.at(i + 1), params, returns, promised, body, self.partner[body]))
+            found.append(Function(self.at(i + 1), params, returns, promised, body, self.partner[body], i))
         return found
 
     def home(self, name):
         """Where the function or table of that name stands in the text, and the functions that it is part of: itself, or its users."""
         for f in self.functions():
             if f.name == name:
-                return (self.tokens[f.first].start, self.tokens[f.last].end), [name]
+                return (self.tokens[f.head].start, self.tokens[f.last].end), [name]
         _, first, last = self.constants()[name]
         users = [f.name for f in self.functions() if name in self.words(f.first, f.last).split(" ")]
         return (self.tokens[first].start, self.tokens[last].end), users

@@ -53,9 +53,9 @@ module _ {Passed : List ℕ → Type 0} {Serves Accepts : Serving} (door : Door 
   -- .. and where all of w are accepted, those of the slice are.
   run_served : {qs : List Request} {l m : List ℕ} {w : ℕ → ℕ} → Holds l w → AllAccepted w qs → Run Serves qs l m → Run Accepts qs l m × Holds m (final w qs)
   run_served h all none = (none, h)
-  run_served h (e, all) (first {q = q} o run) =
-      let rest = run_served (holds_after h (door.stores o)) all run in
-      (first (door.accepts o (holds_answer h q ∙ e)) rest.0, rest.1)
+  run_served h all (first {q = q} o run) =
+      let rest = run_served (holds_after h (door.stores o)) all.1 run in
+      (first (door.accepts o (holds_answer h q ∙ all.0)) rest.0, rest.1)
 
   -- The slice that passed holds its own words, and they pass.
   passed_full : {l : List ℕ} → Passed l → Full l

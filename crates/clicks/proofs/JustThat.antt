@@ -10,7 +10,6 @@ use Rattle.rules.specs.Book.{Book, book_words, table_count, table_at, SME, activ
 use Rattle.rules.specs.Requests.{Request}
 use Rattle.rules.specs.Numbers.{blind}
 use Rattle.rules.proofs.BookLaws.{every_place, write_head, write_row, write_cell, read_head, read_row, read_cell}
-use Rattle.demands.specs.Demand3.{kept}
 use Rattle.clicks.specs.Clicks.{Adding, Joins, AddsJustThat}
 use Rattle.clicks.proofs.Growth.{Grown}
 use Rattle.clicks.proofs.AddingKinds.{blind_grown}

@@ -10,7 +10,6 @@ use borrow.Author.Tests.{eqb-true}
 use Rattle.sets.proofs.MaskLaws.{zero_none}
 use Rattle.chains.specs.Relation.{Relation, In, Chain}
 use Rattle.rules.specs.Book.{Book, tasks, roles, subjects, SME, DME, RB, SB, juniors, tasks_of, roles_of, active, orders, role_in, subject_in}
-use Rattle.rules.specs.Trade.{role, subject}
 use Rattle.rules.specs.Requests.{Deed, define, activate, open_order, close_order, set_row, add_to, set_order, change}
 use Rattle.rules.specs.Numbers.{first_of, conflicts}
 use Rattle.rules.specs.Meaning.{Between, OneValue, CellWord, Pairs, Sound}

@@ -6,7 +6,6 @@ use mathlib.Core.Bool.{true≢false}
 use mathlib.Core.List.Perm
 use mathlib.Core.List.{List, [], ◌∷◌, Perm, reverse, reverse_perm}
 use native.Mathlib.Omega.{arith}
-use lib.Dec.{eqb}
 use borrow.Author.Tests.{eq-eqb}
 use Rattle.rules.specs.Book.{SME, roles_of, active}
 use Rattle.rules.specs.Requests.{Request}

@@ -7,7 +7,7 @@ use native.Mathlib.Omega.{arith}
 use lib.Count.{ones, ones_step, ones-le}
 use lib.Dec.{eqb}
 use Rattle.sets.specs.Mask.{bit}
-use Rattle.sets.specs.Count.{one, count_below, count}
+use Rattle.sets.specs.Count.{one, count_below}
 use Rattle.sets.proofs.MaskLaws.{bit_zero, bit_suc}
 
 one_le : (t : Bool) → one t ≤ 1

@@ -38,6 +38,6 @@ returns-in_default c =
     let s = c.args in
     c.head-in_default.ensures
     ∙ elim c.in_default.branch [
-      in_default-via-then-rule-lt6 w ↦ asked-tasks (tables s.book.now) s.rule (λ h. absurd (omega arith))
+      | in_default-via-then-rule-lt6 w ↦ asked-tasks (tables s.book.now) s.rule (λ h. absurd (omega arith))
       | in_default-via-else-rule-lt6+else-rule-lt8 w ↦ asked-tasks (tables s.book.now) s.rule (λ h. omega arith)
     ]

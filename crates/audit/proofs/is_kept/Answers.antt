@@ -2,7 +2,6 @@ use mathlib.Core.Path.{sym, ap, ◌∙◌}
 use mathlib.Core.Bool.{true}
 use Prim.Native.Nat.{ℕ, ◌<◌}
 use native.Mathlib.Omega.{arith}
-use borrow.Author.Tests.{not-true, not-false}
 use Rattle.sets.specs.Mask.{bit}
 use Rattle.sets.proofs.MemberLaws.{lowest_lt, rest_lt, seen_on, seen_fails, seen_all}
 use Rattle.rules.specs.Audit.{kept_at}
@@ -33,7 +32,7 @@ returns-then-not-is_kept_at c =
     let l = c.loop-left in
     let d = tables s.book.now in
     let sized = read_sized (words s.book.now) (λ i h. (c.type_inv.book i).fits) in
-    let told = rw (c.is_kept_at.ensures, c.lowest.ensures) at (c.if-not-is_kept_at.true) in
+    let told = rw (c.is_kept_at.ensures, c.lowest.ensures) at c.if-not-is_kept_at.true in
     sym (seen_fails (kept_at d s.rule) (omega arith) l.invariant.0 told)
     ∙ tells_kept d sized (search rules) s.rule (omega arith) (keeps_exactly d sized (search rules) s.rule (omega arith))
 

@@ -1,7 +1,6 @@
 -- What 27 says stands; where it is silent, 28 is asked. The role groups come from the subject groups.
 use mathlib.Core.Path.{sym, ◌∙◌}
 use native.Mathlib.Omega.{arith}
-use borrow.Author.Tests.{not-true, not-false}
 use Rattle.rules.proofs.BookLaws.{read_sized}
 use Rattle.book.specs.Slice.{words, tables}
 use Rattle.bindings.proofs.BindingLaws.{sme_around, dme_groups, sme_stands, dme_next}

@@ -1,6 +1,5 @@
 -- Each answer from what has been read by then.
 use mathlib.Core.Path.{sym, ◌∙◌}
-use borrow.Author.Tests.{not-true, not-false}
 use Rattle.book.specs.Slice.{tables}
 use Rattle.exclusions.proofs.ExclusionLaws.{dme_self, dme_sme, dme_subject_group, dme_none}
 use Rattle.exclusions.proofs.dme_conflict.Goals as goal

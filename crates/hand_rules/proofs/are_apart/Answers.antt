@@ -1,17 +1,14 @@
 use mathlib.Core.Path.{◌≡◌, refl, sym, ap, ap₂, ◌∙◌}
 use mathlib.Core.Bool.{Bool, true, false, ◌&&◌}
-use Prim.Native.Nat.{ℕ, ◌-◌, ◌^◌, ◌≤◌}
+use Prim.Native.Nat.{ℕ, ◌-◌, ◌≤◌}
 use native.Mathlib.Omega.{arith}
 use lib.Bits.{bit_or}
 use lib.ListN.{get_or-replicate}
-use borrow.Author.Tests.{not-true, not-false}
-use Rattle.sets.specs.Mask.{only, joined}
+use Rattle.sets.specs.Mask.{joined}
 use Rattle.sets.specs.Search.{all}
 use Rattle.sets.proofs.Logic.{and_fails_r}
 use Rattle.sets.proofs.SearchLaws.{all_on, all_fails, all_done}
 use Rattle.rules.specs.Book.{Book, SME}
-use Rattle.rules.specs.Requests.{is_open}
-use Rattle.rules.specs.Numbers.{held_by}
 use Rattle.rules.specs.Audit.{held_anywhere}
 use Rattle.rules.proofs.BookLaws.{read_sized}
 use Rattle.rules.proofs.HeldLaws.{held_open}

@@ -1,13 +1,11 @@
 use mathlib.Core.Path.{sym, ap, ◌∙◌}
-use mathlib.Core.Bool.{Bool, true}
-use mathlib.Core.List.{List}
+use mathlib.Core.Bool.{true}
 use Prim.Native.Nat.{ℕ, ◌<◌}
 use native.Mathlib.Omega.{arith}
-use borrow.Author.Tests.{not-true, not-false}
 use Rattle.sets.specs.Mask.{bit}
 use Rattle.sets.proofs.MemberLaws.{lowest_lt, rest_lt, seen_on, seen_fails, seen_all}
 use Rattle.rules.specs.Audit.{pair_free}
-use Rattle.book.specs.Slice.{words, tables}
+use Rattle.book.specs.Slice.{tables}
 use Rattle.hand_rules.proofs.ApartLaws.{free_none}
 use borrow.Author.Rules.{rules}
 use Rattle.hand_rules.proofs.are_free.Invariants.{asked}

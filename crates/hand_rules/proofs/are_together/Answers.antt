@@ -2,7 +2,6 @@ use mathlib.Core.Path.{sym, ap, ◌∙◌}
 use mathlib.Core.Bool.{true}
 use Prim.Native.Nat.{ℕ, ◌<◌}
 use native.Mathlib.Omega.{arith}
-use borrow.Author.Tests.{not-true, not-false}
 use Rattle.sets.specs.Mask.{bit}
 use Rattle.sets.proofs.MemberLaws.{lowest_lt, rest_lt, seen_on, seen_fails, seen_all}
 use Rattle.rules.proofs.BookLaws.{read_sized}

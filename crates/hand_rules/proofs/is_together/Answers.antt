@@ -3,7 +3,6 @@ use mathlib.Core.Bool.{true}
 use Prim.Native.Nat.{◌<◌}
 use native.Mathlib.Omega.{arith}
 use lib.Bits.{or_lt}
-use borrow.Author.Tests.{not-true, not-false}
 use Rattle.sets.proofs.MemberLaws.{lowest_lt, rest_lt, seen_on, seen_fails, seen_all}
 use Rattle.book.specs.Slice.{tables}
 use Rattle.hand_rules.specs.Hands.{same_hand}

@@ -1,6 +1,5 @@
 -- An order without u asks nothing; one with u asks it of each group that u is the lowest of.
 use mathlib.Core.Path.{◌∙◌}
-use borrow.Author.Tests.{not-true, not-false}
 use Rattle.sets.specs.Search.{all}
 use Rattle.book.specs.Slice.{tables}
 use Rattle.hand_rules.specs.Hands.{same_hand}

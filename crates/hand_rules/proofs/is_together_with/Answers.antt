@@ -2,7 +2,6 @@ use mathlib.Core.Path.{sym, ◌∙◌}
 use mathlib.Core.Bool.{Bool, true}
 use Prim.Native.Nat.{ℕ, ◌<◌}
 use native.Mathlib.Omega.{arith}
-use borrow.Author.Tests.{not-true, not-false}
 use Rattle.sets.proofs.MemberLaws.{lowest_lt, rest_lt, seen_on, seen_fails, seen_all}
 use Rattle.book.specs.Slice.{tables}
 use Rattle.hand_rules.specs.Hands.{together_in}

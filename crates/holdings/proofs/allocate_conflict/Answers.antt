@@ -1,6 +1,5 @@
 -- What 33 says stands; where it is silent, 34 is asked.
 use mathlib.Core.Path.{sym, ◌∙◌}
-use borrow.Author.Tests.{not-true, not-false}
 use Rattle.book.specs.Slice.{tables}
 use Rattle.holdings.proofs.HoldLaws.{sme_stands, dme_next}
 use Rattle.holdings.proofs.allocate_conflict.Goals as goal

@@ -2,7 +2,6 @@
 use mathlib.Core.Path.{sym, ◌∙◌}
 use native.Mathlib.Omega.{arith}
 use Rattle.labels.proofs.NameLaws.{found_no_sort, found_no_name, found_row}
-use borrow.Author.Tests.{not-true, not-false}
 use Rattle.labels.proofs.find.Goals as goal
 
 pub returns-then-sort-ge-SORTS : goal.returns-then-sort-ge-SORTS

@@ -3,7 +3,6 @@ use native.Mathlib.Omega.{arith}
 use Rattle.sets.proofs.SearchLaws.{search_on, search_at, search_out}
 use Rattle.labels.proofs.NameLaws.{blank_at, length_begins}
 use borrow.Author.Tests.{eq-eqb, ne_eqb}
-use Prim.Native.Nat.{◌-◌}
 use Rattle.labels.proofs.length_of.Goals as goal
 
 pub loop-i-init : goal.loop-i-init

@@ -1,7 +1,6 @@
 -- Judged on the book as it stands; the cells are stamped only where the answer is 0, and then the active role is a role.
 use mathlib.Core.Path.{sym, ◌∙◌}
 use native.Mathlib.Omega.{arith}
-use borrow.Author.Tests.{not-true, not-false}
 use borrow.Author.Rules.{rules}
 use Rattle.rules.proofs.BookLaws.{read_sized}
 use Rattle.book.specs.Slice.{words, tables, Full}

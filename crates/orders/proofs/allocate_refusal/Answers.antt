@@ -2,7 +2,6 @@
 use mathlib.Core.Path.{sym, ap, ◌∙◌}
 use mathlib.Core.Bool.{not}
 use native.Mathlib.Omega.{arith}
-use borrow.Author.Tests.{not-false}
 use Rattle.rules.proofs.BookLaws.{read_sized}
 use Rattle.book.specs.Slice.{words, tables}
 use Rattle.hands.proofs.ActiveLaws.{active_bounds}

@@ -1,6 +1,5 @@
 -- The refusals first, then the conflicts.
 use mathlib.Core.Path.{sym, ◌∙◌}
-use borrow.Author.Tests.{not-true, not-false}
 use Rattle.rules.specs.Numbers.{state_refusal, conflicts}
 use Rattle.deeds.proofs.OutcomeLaws.{decide_refused, decide_conflict}
 use Rattle.orders.proofs.judge_allocation.Goals as goal

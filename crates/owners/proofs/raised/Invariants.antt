@@ -1,5 +1,5 @@
 -- What has been added lies above the set; who is not left has been asked.
-use Prim.Native.Nat.{◌-◌, ◌^◌, ◌<◌}
+use Prim.Native.Nat.{◌^◌, ◌<◌}
 use Rattle.book.specs.Slice.{tables}
 use Rattle.owners.proofs.RaisedLaws.{Raising}
 use Rattle.owners.proofs.raised.Given as goal

@@ -2,26 +2,25 @@
 use mathlib.Core.Path.{sym, ap, ◌∙◌}
 use mathlib.Core.Bool.{not}
 use native.Mathlib.Omega.{arith}
-use borrow.Author.Tests.{not-true, not-false}
 use Rattle.rules.specs.Book.{names}
 use Rattle.scan.proofs.BadLaws.{names_low, outside_order_lem, without_role, role_unknown, role_known}
 use borrow.Author.Rules.{rules}
 use Rattle.scan.proofs.is_bad_cell.Goals as goal
 
 pub returns-then-not-in_order : goal.returns-then-not-in_order
-returns-then-not-in_order c = let s = c.args in outside_order_lem s.roles s.subjects s.v (c.if-not-in_order.true)
+returns-then-not-in_order c = let s = c.args in outside_order_lem s.roles s.subjects s.v c.if-not-in_order.true
 
 pub returns-then-not-has_role : goal.returns-then-not-has_role
 returns-then-not-has_role c =
     let s = c.args in
-    without_role s.roles s.subjects s.v (c.if-not-in_order.false) (sym c.has_role.ensures ∙ c.if-not-has_role.true)
+    without_role s.roles s.subjects s.v c.if-not-in_order.false (sym c.has_role.ensures ∙ c.if-not-has_role.true)
 
 pub returns-then-not-has : goal.returns-then-not-has
 returns-then-not-has c =
     let s = c.args in
     let some = sym c.has_role.ensures ∙ c.if-not-has_role.false in
-    role_unknown s.roles s.subjects s.v (search rules) (c.if-not-in_order.false) some
-    (rw c.role_in.ensures at c.has.ensures) (c.if-not-has.true)
+    role_unknown s.roles s.subjects s.v (search rules) c.if-not-in_order.false some
+    (rw c.role_in.ensures at c.has.ensures) c.if-not-has.true
 
 pub returns-then-subject-ge64 : goal.returns-then-subject-ge64
 returns-then-subject-ge64 c =
@@ -29,9 +28,9 @@ returns-then-subject-ge64 c =
     let some = sym c.has_role.ensures
     ∙ c.if-not-has_role.false in
     ap not (rw c.subject_in-subject.ensures at c.is_in.ensures)
-    ∙ role_known s.roles s.subjects s.v (search rules) (c.if-not-in_order.false) some
+    ∙ role_known s.roles s.subjects s.v (search rules) c.if-not-in_order.false some
     (rw c.role_in.ensures at c.has.ensures)
-    (c.if-not-has.false)
+    c.if-not-has.false
 
 pub returns : goal.returns
 returns c =
@@ -40,6 +39,6 @@ returns c =
     ∙ c.if-not-has_role.false in
     let subject = c.subject_in-subject in
     ap not (c.has-2.ensures ∙ names_low s.subjects subject.result (omega arith) ∙ ap (names s.subjects) subject.ensures)
-    ∙ role_known s.roles s.subjects s.v (search rules) (c.if-not-in_order.false) some
+    ∙ role_known s.roles s.subjects s.v (search rules) c.if-not-in_order.false some
     (rw c.role_in.ensures at c.has.ensures)
-    (c.if-not-has.false)
+    c.if-not-has.false

@@ -1,6 +1,5 @@
 -- The refusals first, then the conflicts.
 use mathlib.Core.Path.{sym, ◌∙◌}
-use borrow.Author.Tests.{not-true, not-false}
 use Rattle.rules.specs.Numbers.{conflicts}
 use Rattle.deeds.proofs.OutcomeLaws.{decide_refused, decide_conflict}
 use Rattle.staff.proofs.judge_assignment.Goals as goal

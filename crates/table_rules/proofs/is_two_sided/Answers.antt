@@ -2,7 +2,6 @@ use mathlib.Core.Path.{sym, ap, ◌∙◌}
 use mathlib.Core.Bool.{true}
 use Prim.Native.Nat.{ℕ, ◌<◌}
 use native.Mathlib.Omega.{arith}
-use borrow.Author.Tests.{not-true, not-false}
 use Rattle.sets.specs.Mask.{bit}
 use Rattle.sets.specs.Search.{lowest}
 use Rattle.sets.proofs.MaskLaws.{without_old}
@@ -33,7 +32,7 @@ returns-then-not-is_in_row c =
     let there = l.invariant.1 _ (lowest_in l.left (omega arith) l.invariant.0) in
     let back = c.is_in_row.ensures ∙ ap (λ (v : ℕ). bit (rows v) s.u) c.lowest.ensures in
     sym (seen_fails (two_sided rows s.u) (omega arith) l.invariant.0
-    (two_sided_seen rows s.u (lowest (bit l.left)) there back (c.if-not-is_in_row.true)))
+    (two_sided_seen rows s.u (lowest (bit l.left)) there back c.if-not-is_in_row.true))
 
 pub loop-left-smaller : goal.loop-left-smaller
 loop-left-smaller c =
@@ -51,7 +50,7 @@ loop-left-preserved c =
       omega (arith, rest_lt l.left (omega arith) l.invariant.0),
       λ k e. l.invariant.1 k (without_old l.left _ k e),
       seen_on (two_sided rows s.u) (omega arith) l.invariant.0 l.invariant.2
-          (two_sided_seen rows s.u (lowest (bit l.left)) there back (c.if-not-is_in_row.false)),
+          (two_sided_seen rows s.u (lowest (bit l.left)) there back c.if-not-is_in_row.false),
     )
 
 pub returns : goal.returns

@@ -1,8 +1,6 @@
 use mathlib.Core.Path.{sym, ◌∙◌}
-use Prim.Native.Nat.{◌-◌}
 use native.Mathlib.Omega.{arith}
 use Rattle.sets.proofs.SearchLaws.{search_on, search_at, search_out}
-use Rattle.text.specs.Rows.{is_row}
 use Rattle.text.proofs.RowLaws.{row_within, find_begins}
 use Rattle.text.proofs.find_row.Goals as goal
 

@@ -20,13 +20,13 @@ returns-then-start-end c =
 pub returns-then-not-is_name : goal.returns-then-not-is_name
 unfolding label_at
 returns-then-not-is_name c =
-    label_none _ _ _ _ _ _ _ _ _ c.is_name.ensures (c.if-not-is_name.true)
+    label_none _ _ _ _ _ _ _ _ _ c.is_name.ensures c.if-not-is_name.true
     ∙ next_there _ _ _ _ c.next-word.ensures.0 _ _ c.if-word.false c.if-start-end.false
 
 pub returns-then-holder-n : goal.returns-then-holder-n
 unfolding label_at
 returns-then-holder-n c =
-    label_taken _ _ _ _ _ _ _ _ _ c.is_name.ensures (c.if-not-is_name.false) _ c.find-holder.ensures c.if-holder-n.true
+    label_taken _ _ _ _ _ _ _ _ _ c.is_name.ensures c.if-not-is_name.false _ c.find-holder.ensures c.if-holder-n.true
     ∙ next_there _ _ _ _ c.next-word.ensures.0 _ _ c.if-word.false c.if-start-end.false
 
 pub returns : goal.returns

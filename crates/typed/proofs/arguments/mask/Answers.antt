@@ -5,7 +5,7 @@ use Rattle.typed.proofs.arguments.mask.Goals as goal
 
 pub returns-then-not-is_tasks : goal.returns-then-not-is_tasks
 returns-then-not-is_tasks c =
-    c.thing.ensures ∙ mask_number _ _ _ _ _ c.next-word.ensures.0 _ c.is_tasks.ensures (c.if-not-is_tasks.true)
+    c.thing.ensures ∙ mask_number _ _ _ _ _ c.next-word.ensures.0 _ c.is_tasks.ensures c.if-not-is_tasks.true
 
 pub returns-in-Is : goal.returns-in-Is
 returns-in-Is c =
@@ -17,4 +17,4 @@ returns-in-Is c =
 pub returns-in-Not : goal.returns-in-Not
 returns-in-Not c =
     let thing = sym c.thing-2.ensures ∙ c.in-Not.is in
-    mask_bad_lem _ _ _ _ _ c.next-word.ensures.0 _ c.is_tasks.ensures (c.if-not-is_tasks.false) _ _ thing
+    mask_bad_lem _ _ _ _ _ c.next-word.ensures.0 _ c.is_tasks.ensures c.if-not-is_tasks.false _ _ thing
