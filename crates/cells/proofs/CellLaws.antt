@@ -58,7 +58,8 @@ all_emptied w p i h = book_ext _ _ (λ j. refl) (λ n r. refl) (λ q t. go q t (
 module _ (d : Book) (p by_subject e c : ℕ) where
   -- The lowest of those left stamped, and then the rest, is all of them stamped ..
   pub stamped_on : {left : ℕ} {whole : Book} → 0 < left → left < 2 ^ 64 → stamped d p left by_subject e c ≡ whole
-      → stamped (with_cell p (lowest (bit left)) (new_cell d p by_subject e c (lowest (bit left))) d) p (without left (lowest (bit left))) by_subject e c ≡ whole
+      → stamped (with_cell p (lowest (bit left)) (new_cell d p by_subject e c (lowest (bit left))) d) p (without left (lowest (bit left))) by_subject e c
+      ≡ whole
   unfolding stamped_cell with
   stamped_on {left} some fits all = book_ext _ _ (λ j. refl) (λ n r. refl) (λ q u. go q u (eqb q p) refl (eqb u t) refl) ∙ all
     where

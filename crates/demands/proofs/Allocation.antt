@@ -105,7 +105,8 @@ stamped_role true false e c v h p = omega arith
 stamped_role false s e c v h p = absurd (true≢false (sym p))
 
 -- .. in the subject hand the subject too ..
-stamped_subject : (in_role in_subject : Bool) (e c v : ℕ) → c < 64 → in_role ≡ true → in_subject ≡ true → subject_in (stamped_cell in_role in_subject e c v) ≡ suc c
+stamped_subject : (in_role in_subject : Bool) (e c v : ℕ) → c < 64 → in_role ≡ true → in_subject ≡ true
+    → subject_in (stamped_cell in_role in_subject e c v) ≡ suc c
 unfolding stamped_cell
 stamped_subject true true e c v h p q = omega arith
 stamped_subject true false e c v h p q = absurd (true≢false (sym q))

@@ -203,5 +203,6 @@ module _ (d : Book) (s : Sized d) (f : Formed d) where
         none (sym (lowest_end 64 _ (λ o l. refute _ (λ e.
         let x = (owns_one owner (all_clashing d gain) o clashing_lt l).means (holds o e) in zero_none x.0 z x.2))))
 
-    pub no_owner : 64 ≤ lowest (starts_in_both d owner (above d (2 ^ b)) (owners_of d (all_clashing d gain))) → Nothing ≡ found_clash (clashes_below d owner b gain)
+    pub no_owner : 64 ≤ lowest (starts_in_both d owner (above d (2 ^ b)) (owners_of d (all_clashing d gain)))
+        → Nothing ≡ found_clash (clashes_below d owner b gain)
     no_owner h = none (omega (arith, lowest_most 64 0 (starts_in_both d owner (above d (2 ^ b)) (owners_of d (all_clashing d gain)))))

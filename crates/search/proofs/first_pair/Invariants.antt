@@ -18,7 +18,8 @@ decreases-loop-y l = 64 - l.y
 
 abbrev pub invariant-search : goal.invariant-search
 invariant-search l =
-    (l.left < 2 ^ 64) × ((k : ℕ) → bit l.left k ≡ true → bit l.xs k ≡ true) × Seen (paired (between ((tables l.book).row l.table) l.xs l.ys)) false l.left × (l.found ≡ Nothing)
+    (l.left < 2 ^ 64) × ((k : ℕ) → bit l.left k ≡ true → bit l.xs k ≡ true)
+    × Seen (paired (between ((tables l.book).row l.table) l.xs l.ys)) false l.left × (l.found ≡ Nothing)
 
 abbrev pub decreases-search : goal.decreases-search
 decreases-search l = l.left
