@@ -145,7 +145,10 @@ module _ (line : List ℕ) (whole : Bool) where
               | true ↦ help_at end
               | false ↦ elim (eqb row quit_row) [
                 | true ↦ ends end Quit
-                | false ↦ elim (eqb row name_row) [ true ↦ name_at end | false ↦ elim (eqb row try_row) [ true ↦ request_at true end | false ↦ request_at false 0 ] ]
+                | false ↦ elim (eqb row name_row) [
+                  | true ↦ name_at end
+                  | false ↦ elim (eqb row try_row) [ true ↦ request_at true end | false ↦ request_at false 0 ]
+                ]
               ]
             ]
           ]
