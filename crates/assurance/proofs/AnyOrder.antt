@@ -16,7 +16,6 @@ use Rattle.demands.specs.Demand3 as demand
 use Rattle.clicks.specs.Clicks.{AllAccepted, final}
 use Rattle.clicks.proofs.Clicks.{order_free, restored, back_accepted}
 use Rattle.book.specs.Slice.{words, Full}
-use Rattle.answers.specs.Answers.{said}
 use Rattle.answers.specs.declared.Answer.TheVariants.{Accepted}
 use Rattle.answers.specs.declared.Finding.TheVariants.{Sound}
 use Rattle.answers.proofs.AnswerLaws.{said_injective}

@@ -17,8 +17,8 @@ use Rattle.rules.specs.Numbers.{argument_fault, allocate_refusal, state_refusal,
 use Rattle.rules.specs.Numbers.{Conflict, self_constraint, already_dme, already_sme, one_subject_group, one_role_group, role_owns_both, subject_owns_both}
 use Rattle.rules.specs.Numbers.{sme_between_groups, dme_between_groups, self_inheritance, cycle, task_assignment, role_assignment, own_role_assignment}
 use Rattle.rules.specs.Numbers.{held_sme, held_dme, unlisted, sme_conflicts, dme_conflicts, rb_conflicts, sb_conflicts, task_conflicts, junior_conflicts}
-use Rattle.rules.specs.Numbers.{role_conflicts, held_conflicts, by_table, pair_conflicts, assign_conflicts, conflicts, first_of}
-use Rattle.rules.specs.Numbers.{conflict, or_else, judge, answer}
+use Rattle.rules.specs.Numbers.{role_conflicts, held_conflicts, by_table, pair_conflicts, assign_conflicts, conflicts, first_of, conflict}
+use Rattle.rules.specs.Numbers.{or_else, judge, answer}
 use Rattle.rules.specs.Audit.{audit, audited, first_broken, rule_count}
 use Rattle.book.specs.Slice.{words}
 use Rattle.towerplank.specs.Told.{four_words, Told, ToldAudit}

@@ -107,8 +107,8 @@ module _ (d : Book) (s : Sized d) where
   -- Who is bound to nobody is a group alone.
   pub bound_alone : (u : ℕ) → u < 64 → ((v : ℕ) → Mixed (d.row SB) (d.row RB) u v → ⊥) → bound_together d u ≡ true
   bound_alone u h f = (bound_exactly u).holds (λ p hp i v hv. (
-    λ x. ap (λ (t : ℕ). subject_in (d.cell p t)) (chain_alone (λ j e. f j (inl e))
-        (((subject_group_lem d s).says u v h).means (cut p v (subject_group d u) x.1))),
+    λ x. ap (λ (t : ℕ). subject_in (d.cell p t))
+        (chain_alone (λ j e. f j (inl e)) (((subject_group_lem d s).says u v h).means (cut p v (subject_group d u) x.1))),
     λ x. ap (λ (t : ℕ). role_in (d.cell p t)) (chain_alone f (((role_group_lem d s).says u v h).means (cut p v (role_group d u) x.1))),
   ))
     where

@@ -39,7 +39,8 @@ from_zeros (suc k) j m f e =
 
 -- The count of trailing zeros is the lowest member.
 pub zeros_lowest : (m : ℕ) → count_trailing_zeros 64 m ≡ lowest (bit m)
-zeros_lowest m = let z : zero + count_trailing_zeros 64 m ≡ count_trailing_zeros 64 m = omega arith in
+zeros_lowest m =
+    let z : zero + count_trailing_zeros 64 m ≡ count_trailing_zeros 64 m = omega arith in
     sym z ∙ from_zeros 64 zero m (bit m) (λ i. ap (bit m) (omega arith))
 
 -- Of the digits of m and m - 1 only those above the lowest member are the same: m & (m - 1) lacks exactly that one.
@@ -174,8 +175,8 @@ or_assoc a b c =
     let ha : a < 2 ^ k = lt_of_lt_of_le (below_pow a) (pow_mono (omega arith)) in
     let hb : b < 2 ^ k = lt_of_lt_of_le (below_pow b) (pow_mono (omega arith)) in
     let hc : c < 2 ^ k = lt_of_lt_of_le (below_pow c) (pow_mono (omega arith)) in
-    bit_ext k (bit_or (bit_or a b) c) (bit_or a (bit_or b c)) (or_lt k (bit_or a b) c (or_lt k a b ha hb) hc) (or_lt k a (bit_or b c) ha (or_lt k b c hb hc))
-    (λ i q.
+    bit_ext k (bit_or (bit_or a b) c) (bit_or a (bit_or b c)) (or_lt k (bit_or a b) c (or_lt k a b ha hb) hc)
+    (or_lt k a (bit_or b c) ha (or_lt k b c hb hc)) (λ i q.
     bit-or (bit_or a b) c i ∙ ap (λ (t : Bool). t || bit c i) (bit-or a b i) ∙ bool_assoc (bit a i) (bit b i) (bit c i)
     ∙ sym (bit-or a (bit_or b c) i ∙ ap (λ (t : Bool). bit a i || t) (bit-or b c i)))
   where

@@ -210,8 +210,8 @@ module _ (line : List ℕ) (whole : Bool) (names : List ℕ) where
     unfolding begun_by
     begun_try h = rw (h)
 
-    pub begun_request : (row ≡ show_row → ⊥) → (row ≡ audit_row → ⊥) → (row ≡ help_row → ⊥) → (row ≡ quit_row → ⊥) → (row ≡ name_row → ⊥)
-        → (row ≡ try_row → ⊥) →
+    pub begun_request : (row ≡ show_row → ⊥) → (row ≡ audit_row → ⊥) → (row ≡ help_row → ⊥) → (row ≡ quit_row → ⊥) → (row ≡ name_row → ⊥) →
+        (row ≡ try_row → ⊥) →
         request_at line whole names false 0 ≡ begun_by line whole names row end
     unfolding begun_by
     begun_request a b c d e f =

@@ -32,8 +32,8 @@ returns-then-not-is_bound_together c =
     let sized = read_sized (words s.book.now) (λ i h. (c.type_inv.book i).fits) in
     let e = sym c.is_bound_together.ensures ∙ c.if-not-is_bound_together.true in
     sym (seen_fails (bound_together d) (omega arith) l.invariant.0 (rw c.lowest.ensures at e))
-    ∙ tells_kept d sized (search rules) 10 (omega arith) (together_exactly d sized
-    ((broken_unless d sized (search rules) 2 (omega arith)).means (search rules)))
+    ∙ tells_kept d sized (search rules) 10 (omega arith)
+    (together_exactly d sized ((broken_unless d sized (search rules) 2 (omega arith)).means (search rules)))
 
 pub loop-left-smaller : goal.loop-left-smaller
 loop-left-smaller c =
@@ -57,5 +57,5 @@ returns c =
     let d = tables s.book.now in
     let sized = read_sized (words s.book.now) (λ i h. (c.type_inv.book i).fits) in
     sym (seen_all (bound_together d) (rw c.loop-left-test.false at c.loop-left.invariant.1))
-    ∙ tells_kept d sized (search rules) 10 (omega arith) (together_exactly d sized
-    ((broken_unless d sized (search rules) 2 (omega arith)).means (search rules)))
+    ∙ tells_kept d sized (search rules) 10 (omega arith)
+    (together_exactly d sized ((broken_unless d sized (search rules) 2 (omega arith)).means (search rules)))

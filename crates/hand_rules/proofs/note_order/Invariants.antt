@@ -11,8 +11,8 @@ use Rattle.hand_rules.proofs.note_order.Given as goal
 abbrev pub invariant-loop-left : goal.invariant-loop-left
 invariant-loop-left l =
     (l.left < 2 ^ 64) × (length l.held ≡ 64)
-    × ((k : ℕ) → k < 64 → bit_or (words l.held k) (picked (in_hand (tables l.book) l.order k) l.left)
-    ≡ bit_or (words l.initial.held k) (held_by (tables l.book) l.order k))
+    × ((k : ℕ) → k < 64
+    → bit_or (words l.held k) (picked (in_hand (tables l.book) l.order k) l.left) ≡ bit_or (words l.initial.held k) (held_by (tables l.book) l.order k))
 
 abbrev pub decreases-loop-left : goal.decreases-loop-left
 decreases-loop-left l = l.left

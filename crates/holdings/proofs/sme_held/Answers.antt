@@ -1,5 +1,4 @@
 use mathlib.Core.Path.{refl}
-use Prim.Native.Nat.{◌-◌}
 use native.Mathlib.Omega.{arith}
 use Rattle.sets.proofs.SearchLaws.{search_on, search_at, search_out}
 use Rattle.rules.proofs.BookLaws.{read_sized}

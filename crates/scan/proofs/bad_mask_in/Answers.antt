@@ -1,5 +1,4 @@
 use mathlib.Core.Path.{refl, sym}
-use Prim.Native.Nat.{◌-◌}
 use native.Mathlib.Omega.{arith}
 use Rattle.sets.proofs.SearchLaws.{search_on, search_at, search_out}
 use Rattle.book.specs.Slice.{tables}

@@ -1,5 +1,5 @@
 use mathlib.Core.Path.{sym, ◌∙◌}
-use Prim.Native.Nat.{◌+◌, ◌-◌, ◌*◌}
+use Prim.Native.Nat.{◌+◌, ◌*◌}
 use native.Mathlib.Omega.{arith}
 use Rattle.sets.proofs.SearchLaws.{lowest_end}
 use Rattle.rules.specs.Book.{book_words, table_at, cells_at, bad, first_bad}

@@ -8,8 +8,8 @@ use Rattle.search.proofs.meeting.Given as goal
 
 abbrev pub invariant-loop-left : goal.invariant-loop-left
 invariant-loop-left l =
-    (l.left < 2 ^ 64) × (bit_or l.out (picked (λ i. meet ((tables l.book).row l.table i) l.set) l.left)
-    ≡ picked (λ i. meet ((tables l.book).row l.table i) l.set) l.those)
+    (l.left < 2 ^ 64)
+    × (bit_or l.out (picked (λ i. meet ((tables l.book).row l.table i) l.set) l.left) ≡ picked (λ i. meet ((tables l.book).row l.table i) l.set) l.those)
 
 abbrev pub decreases-loop-left : goal.decreases-loop-left
 decreases-loop-left l = l.left
