@@ -1,9 +1,9 @@
-# tools/moved: on the two commits of a small repository (tests/moved/book.txt), between a commit and itself, and called wrongly; and on
-# the pages of docs/changes that show what it prints. Sourced by .ci/run, or called alone.
+# tools/moved: on the two commits of a small repository, in the older spelling (tests/moved/book.txt) and in today's (tests/moved/today.txt),
+# between a commit and itself, and called wrongly; and on the pages of docs/changes that show what it prints. Sourced by .ci/run, or called alone.
 type holds >/dev/null 2>&1 || . "$(dirname "${BASH_SOURCE[0]}")/alone"
 
 room=$(mktemp -d)
-mkdir "$room/book" "$room/none" "$room/pages"
+mkdir "$room/book" "$room/today" "$room/none" "$room/pages"
 moved=$PWD/tools/moved
 
 at() { # FOLDER COMMAND ..: in a folder of the room, with a git that sees no other repository and no settings of the machine
@@ -13,31 +13,34 @@ at() { # FOLDER COMMAND ..: in a folder of the room, with a git that sees no oth
         cd "$room/$1" && shift && "$@"
     )
 }
-write() { # MARK: the files of the small repository, of the lines that have this mark or none
-    rm -rf "$room/book/crates"
-    awk -v room="$room/book/" -v mark="$1" '
+write() { # FOLDER MARK: the files of the small repository, of the lines that have this mark or none
+    rm -rf "${room:?}/$1/crates"
+    awk -v room="$room/$1/" -v mark="$2" '
         !/^[ ]|^$/ && substr($0, 1, 1) != mark { next }
         { $0 = substr($0, 2) }
         /^==== / { file = room $2; folder = file; sub(/[^\/]*$/, "", folder); system("mkdir -p " folder); printf "" >file; next }
-        { print >file }' tests/moved/book.txt
+        { print >file }' "tests/moved/$1.txt"
 }
-commit() { # NAME: what stands there, under this name
-    at book git add -A
-    at book git -c user.name=nobody -c user.email=nobody@localhost commit -q --allow-empty -m "$1"
-    at book git tag "$1"
+commit() { # FOLDER NAME: what stands there, under this name
+    at "$1" git add -A
+    at "$1" git -c user.name=nobody -c user.email=nobody@localhost commit -q --allow-empty -m "$2"
+    at "$1" git tag "$2"
 }
-at book git init -q
-commit empty
-write -
-commit before
-write +
-commit after
+for folder in book today; do
+    at "$folder" git init -q
+    commit "$folder" empty
+    write "$folder" -
+    commit "$folder" before
+    write "$folder" +
+    commit "$folder" after
+done
 
 tells() { # FOLDER FROM TO FILE: what is printed there is what stands in the file
     at "$1" "$moved" "$2" "$3" | diff - "$4"
 }
 holds "each sort of change is told" tells book before after tests/moved/expected.txt
-write -
+holds "and so it is in today's spelling" tells today before after tests/moved/today-expected.txt
+write book -
 holds "what is not committed does not count, and any folder of the repository will do" tells book/crates before after tests/moved/expected.txt
 
 cat >"$room/nothing" <<'END'
@@ -47,15 +50,17 @@ code without a contract: no change
 laws: no change
 proofs of functions: no change
 must-fail edits: no change
-crates: 5 with no change
+crates: 4 with no change
   with no change
-    sets, book, book_c, new, talk
+    sets, book, new, talk
 in all: no change; of the sentences before, others now: 0, gone: 0
 END
 holds "between a commit and itself nothing moved" tells book after HEAD "$room/nothing"
 
 all_told() { # FROM TO
-    [ "$(at book "$moved" --check "$1" "$2")" = "whatever is not told is the same in both" ]
+    for folder in book today; do
+        [ "$(at "$folder" "$moved" --check "$1" "$2")" = "whatever is not told is the same in both" ] || return 1
+    done
 }
 holds "every change is told, there and back" eval "all_told before after && all_told after before"
 
