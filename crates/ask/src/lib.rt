@@ -5,7 +5,7 @@ ghost use Rattle.std.specs.Prelude.{◌≡◌, ◌&&◌, not, ◌<◌, ltb, eqb}
 ghost use Rattle.sets.specs.Mask.{bit, within};
 ghost use Rattle.rules.specs.Book.{head_words, tasks};
 ghost use Rattle.rules.specs.Requests.{row_of, fits, is_open};
-ghost use Rattle.book.specs.Slice.{tables, Full};
+ghost use Rattle.book.specs.Slice.{tables};
 ghost use Rattle.ask.specs.Arguments.{need_of, asked, fault_of};
 
 // What an argument must be.
@@ -62,8 +62,8 @@ fn row_of(kind: u64) -> Row
 }
 
 // Whether v is a defined task, role or subject, by the word of the head.
-fn is_defined(book: &[u64], things: u64, v: u64) -> bool
-    requires { Full book.now × (things < head_words) }
+fn is_defined(book: &book::Words, things: u64, v: u64) -> bool
+    requires { (things < head_words) }
     ensures { result ≡ (ltb v 64 && bit ((tables book.now).head things) v) }
 {
     if v < 64 {
@@ -74,8 +74,7 @@ fn is_defined(book: &[u64], things: u64, v: u64) -> bool
 }
 
 // Whether v is an open order.
-fn is_open_order(book: &[u64], v: u64) -> bool
-    requires { Full book.now }
+fn is_open_order(book: &book::Words, v: u64) -> bool
     ensures { result ≡ (ltb v 64 && is_open (tables book.now) v) }
 {
     if v < 64 {
@@ -86,16 +85,14 @@ fn is_open_order(book: &[u64], v: u64) -> bool
 }
 
 // Whether v is a nonempty mask of defined tasks.
-fn is_task_mask(book: &[u64], v: u64) -> bool
-    requires { Full book.now }
+fn is_task_mask(book: &book::Words, v: u64) -> bool
     ensures { result ≡ (not (eqb v 0) && within v (tasks (tables book.now))) }
 {
     (v != 0) & sets::inside(v, book::head(book, book::TASKS))
 }
 
 // Whether v is what it must be.
-fn is_fit(book: &[u64], argument: Argument, v: u64) -> bool
-    requires { Full book.now }
+fn is_fit(book: &book::Words, argument: Argument, v: u64) -> bool
     ensures { result ≡ fits (tables book.now) (need_of argument) v }
 {
     match argument {
@@ -110,8 +107,7 @@ fn is_fit(book: &[u64], argument: Argument, v: u64) -> bool
 }
 
 // The first argument at fault, 1, 2 or 3; 0 where none is.
-pub fn argument_fault(book: &[u64], kind: u64, a: u64, b: u64, c: u64) -> u64
-    requires { Full book.now }
+pub fn argument_fault(book: &book::Words, kind: u64, a: u64, b: u64, c: u64) -> u64
     ensures { result ≡ fault_of (tables book.now) (row_of kind) a b c }
 {
     let row = row_of(kind);

@@ -5,7 +5,7 @@ ghost use Rattle.std.specs.Prelude.{◌≡◌, false, not, ◌<◌};
 ghost use Rattle.rules.specs.Book.{SME, DME};
 ghost use Rattle.rules.specs.Trade.{subject_group, role_group};
 ghost use Rattle.rules.specs.Audit.{apart, kept_at, broken, first_broken};
-ghost use Rattle.book.specs.Slice.{tables, Full, WellFormed};
+ghost use Rattle.book.specs.Slice.{tables, WellFormed};
 ghost use Rattle.audit.specs.Guarantee.{Finds};
 ghost use Rattle.audit.specs.Asked.{asked_by};
 
@@ -17,8 +17,7 @@ use table_rules::RowRule;
 const PAST: u8 = 11;
 
 // The numbers that rules 1 to 8 ask about: tasks in 1 to 5, roles in 6 and 7, subjects in 8. Where nothing is defined, nothing stands.
-fn asked(book: &[u64], rule: u8) -> u64
-    requires { Full book.now }
+fn asked(book: &book::Words, rule: u8) -> u64
     ensures { result ≡ asked_by (tables book.now) rule }
 {
     match rule {
@@ -29,8 +28,8 @@ fn asked(book: &[u64], rule: u8) -> u64
 }
 
 // Rule 4 of task x: one that is SME to none needs no group.
-fn is_sme_apart(book: &[u64], x: u64) -> bool
-    requires { Full book.now × (x < 64) }
+fn is_sme_apart(book: &book::Words, x: u64) -> bool
+    requires { (x < 64) }
     ensures { result ≡ apart ((tables book.now).row SME) (role_group (tables book.now)) x }
 {
     if book::row(book, book::SME, x) == 0 {
@@ -40,8 +39,8 @@ fn is_sme_apart(book: &[u64], x: u64) -> bool
 }
 
 // Rule 5 of task x: one that is DME to none needs no group.
-fn is_dme_apart(book: &[u64], x: u64) -> bool
-    requires { Full book.now × (x < 64) }
+fn is_dme_apart(book: &book::Words, x: u64) -> bool
+    requires { (x < 64) }
     ensures { result ≡ apart ((tables book.now).row DME) (subject_group (tables book.now)) x }
 {
     if book::row(book, book::DME, x) == 0 {
@@ -51,8 +50,8 @@ fn is_dme_apart(book: &[u64], x: u64) -> bool
 }
 
 // Rules 1 and 2 of task x. What is neither asks nothing here.
-fn is_pair_kept(book: &[u64], rule: u8, x: u64) -> bool
-    requires { Full book.now × (x < 64) × (rule < 3) }
+fn is_pair_kept(book: &book::Words, rule: u8, x: u64) -> bool
+    requires { (x < 64) × (rule < 3) }
     ensures { result ≡ kept_at (tables book.now) rule x }
 {
     match rule {
@@ -63,8 +62,8 @@ fn is_pair_kept(book: &[u64], rule: u8, x: u64) -> bool
 }
 
 // Rules 3 to 5 of task x.
-fn is_exclusion_kept(book: &[u64], rule: u8, x: u64) -> bool
-    requires { Full book.now × (x < 64) × (2 < rule) × (rule < 6) }
+fn is_exclusion_kept(book: &book::Words, rule: u8, x: u64) -> bool
+    requires { (x < 64) × (2 < rule) × (rule < 6) }
     ensures { result ≡ kept_at (tables book.now) rule x }
 {
     match rule {
@@ -75,8 +74,8 @@ fn is_exclusion_kept(book: &[u64], rule: u8, x: u64) -> bool
 }
 
 // Rules 6 and 7 of role x, rule 8 of subject x.
-fn is_owner_kept(book: &[u64], rule: u8, x: u64) -> bool
-    requires { Full book.now × (x < 64) × (5 < rule) × (rule < 9) }
+fn is_owner_kept(book: &book::Words, rule: u8, x: u64) -> bool
+    requires { (x < 64) × (5 < rule) × (rule < 9) }
     ensures { result ≡ kept_at (tables book.now) rule x }
 {
     match rule {
@@ -87,8 +86,8 @@ fn is_owner_kept(book: &[u64], rule: u8, x: u64) -> bool
 }
 
 // What one of rules 1 to 8 asks of one number. It is asked of every number, so the rules part by tests: a jump through a table costs more.
-fn is_kept_at(book: &[u64], rule: u8, x: u64) -> bool
-    requires { Full book.now × (x < 64) × (rule < 9) }
+fn is_kept_at(book: &book::Words, rule: u8, x: u64) -> bool
+    requires { (x < 64) × (rule < 9) }
     ensures { result ≡ kept_at (tables book.now) rule x }
 {
     if rule < 3 {
@@ -101,7 +100,7 @@ fn is_kept_at(book: &[u64], rule: u8, x: u64) -> bool
 }
 
 // Whether one of rules 1 to 8 is kept: it is at every defined number, and at the others by itself.
-fn is_kept(book: &[u64], rule: u8) -> bool
+fn is_kept(book: &book::Words, rule: u8) -> bool
     requires { WellFormed book.now × (rule < 9) }
     ensures { result ≡ not (broken (tables book.now) rule) }
 {
@@ -116,7 +115,7 @@ fn is_kept(book: &[u64], rule: u8) -> bool
 }
 
 // Whether a rule is broken. Rule 10 is asked last, and then rule 2 is kept.
-fn is_broken(book: &[u64], rule: u8) -> bool
+fn is_broken(book: &book::Words, rule: u8) -> bool
     requires { WellFormed book.now × (rule < 11) × (2 < rule → broken (tables book.now) 2 ≡ false) }
     ensures { result ≡ broken (tables book.now) rule }
 {
@@ -128,7 +127,7 @@ fn is_broken(book: &[u64], rule: u8) -> bool
 }
 
 // The lowest broken rule; 11 where all ten are kept.
-fn lowest_broken(book: &[u64]) -> u8
+fn lowest_broken(book: &book::Words) -> u8
     requires { WellFormed book.now }
     ensures { result ≡ first_broken (tables book.now) }
 {

@@ -4,15 +4,14 @@
 ghost use Rattle.std.specs.Prelude.{◌≡◌, [], ◌∷◌, ◌<◌};
 ghost use Rattle.rules.specs.Book.{SME, DME};
 ghost use Rattle.rules.specs.Numbers.{accepted, given_pair, between, sme_between_groups, dme_between_groups, rb_conflicts, sb_conflicts, first_of};
-ghost use Rattle.book.specs.Slice.{tables, Full};
+ghost use Rattle.book.specs.Slice.{tables};
 ghost use Rattle.answers.specs.Answers.{said};
 
 use answers::Answer;
 use search::Found;
 
 // 27: SME between two role groups.
-fn sme_between(book: &[u64], xs: u64, ys: u64) -> Answer
-    requires { Full book.now }
+fn sme_between(book: &book::Words, xs: u64, ys: u64) -> Answer
     ensures { said result ≡ given_pair 27 (between ((tables book.now).row SME) xs ys) accepted }
 {
     let found = search::first_pair(book, book::SME, xs, ys);
@@ -23,8 +22,7 @@ fn sme_between(book: &[u64], xs: u64, ys: u64) -> Answer
 }
 
 // 28: DME between two subject groups.
-fn dme_between(book: &[u64], xs: u64, ys: u64) -> Answer
-    requires { Full book.now }
+fn dme_between(book: &book::Words, xs: u64, ys: u64) -> Answer
     ensures { said result ≡ given_pair 28 (between ((tables book.now).row DME) xs ys) accepted }
 {
     let found = search::first_pair(book, book::DME, xs, ys);
@@ -35,8 +33,8 @@ fn dme_between(book: &[u64], xs: u64, ys: u64) -> Answer
 }
 
 // Kind 6: 20, 22, 27.
-pub fn rb_conflict(book: &[u64], a: u64, b: u64) -> Answer
-    requires { Full book.now × (a < 64) × (b < 64) }
+pub fn rb_conflict(book: &book::Words, a: u64, b: u64) -> Answer
+    requires { (a < 64) × (b < 64) }
     ensures { said result ≡ first_of rb_conflicts (tables book.now) a b }
 {
     if a == b {
@@ -49,8 +47,8 @@ pub fn rb_conflict(book: &[u64], a: u64, b: u64) -> Answer
 }
 
 // 27 between the role groups of a and b, then 28 between their subject groups, of which the role groups are made.
-fn groups_conflict(book: &[u64], a: u64, b: u64) -> Answer
-    requires { Full book.now × (a < 64) × (b < 64) }
+fn groups_conflict(book: &book::Words, a: u64, b: u64) -> Answer
+    requires { (a < 64) × (b < 64) }
     ensures { said result ≡ first_of (sme_between_groups ∷ dme_between_groups ∷ []) (tables book.now) a b }
 {
     let xs = trade::subject_group(book, a);
@@ -67,8 +65,8 @@ fn groups_conflict(book: &[u64], a: u64, b: u64) -> Answer
 }
 
 // Kind 7: 20, 21, 22, 27, 28.
-pub fn sb_conflict(book: &[u64], a: u64, b: u64) -> Answer
-    requires { Full book.now × (a < 64) × (b < 64) }
+pub fn sb_conflict(book: &book::Words, a: u64, b: u64) -> Answer
+    requires { (a < 64) × (b < 64) }
     ensures { said result ≡ first_of sb_conflicts (tables book.now) a b }
 {
     if a == b {

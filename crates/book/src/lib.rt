@@ -10,6 +10,9 @@ ghost use Rattle.book.specs.Slice.{tables, Full, Became, with_head, with_row, wi
 // How many words a book has.
 pub const WORDS: usize = 4676;
 
+// The words of a book.
+pub type Words = [u64; WORDS];
+
 // The same, as a place: no word lies there.
 pub const END: u64 = WORDS as u64;
 
@@ -68,32 +71,32 @@ pub fn cell_at(order: u64, task: u64) -> u64
 }
 
 // A word of the head: the defined tasks, roles or subjects, or word 3.
-pub fn head(book: &[u64], i: u64) -> u64
-    requires { Full book.now × (i < head_words) }
+pub fn head(book: &Words, i: u64) -> u64
+    requires { (i < head_words) }
     ensures { result ≡ (tables book.now).head i }
 {
     book[i as usize]
 }
 
 // Row r of a table.
-pub fn row(book: &[u64], table: u64, r: u64) -> u64
-    requires { Full book.now × (table < table_count) × (r < 64) }
+pub fn row(book: &Words, table: u64, r: u64) -> u64
+    requires { (table < table_count) × (r < 64) }
     ensures { result ≡ (tables book.now).row table r }
 {
     book[row_at(table, r) as usize]
 }
 
 // Whether number i is in row r of a table.
-pub fn is_in_row(book: &[u64], table: u64, r: u64, i: u64) -> bool
-    requires { Full book.now × (table < table_count) × (r < 64) × (i < 64) }
+pub fn is_in_row(book: &Words, table: u64, r: u64, i: u64) -> bool
+    requires { (table < table_count) × (r < 64) × (i < 64) }
     ensures { result ≡ bit ((tables book.now).row table r) i }
 {
     sets::has(row(book, table, r), i)
 }
 
 // The cell of an order and a task.
-pub fn cell(book: &[u64], order: u64, task: u64) -> u64
-    requires { Full book.now × (order < 64) × (task < 64) }
+pub fn cell(book: &Words, order: u64, task: u64) -> u64
+    requires { (order < 64) × (task < 64) }
     ensures { result ≡ (tables book.now).cell order task }
 {
     book[cell_at(order, task) as usize]
@@ -122,32 +125,32 @@ pub fn cell_of(role: u64, subject: u64) -> u64
 }
 
 // Word i of the head is v.
-pub fn set_head(book: &mut [u64], i: u64, v: u64)
-    requires { Full book.old × (i < head_words) }
+pub fn set_head(book: &mut Words, i: u64, v: u64)
+    requires { (i < head_words) }
     ensures { Became book.old book.new (with_head i v) }
 {
     book[i as usize] = v;
 }
 
 // Row r of a table is v.
-pub fn set_row(book: &mut [u64], table: u64, r: u64, v: u64)
-    requires { Full book.old × (table < table_count) × (r < 64) }
+pub fn set_row(book: &mut Words, table: u64, r: u64, v: u64)
+    requires { (table < table_count) × (r < 64) }
     ensures { Became book.old book.new (with_row table r v) }
 {
     book[row_at(table, r) as usize] = v;
 }
 
 // The cell of an order and a task is v.
-pub fn set_cell(book: &mut [u64], order: u64, task: u64, v: u64)
-    requires { Full book.old × (order < 64) × (task < 64) }
+pub fn set_cell(book: &mut Words, order: u64, task: u64, v: u64)
+    requires { (order < 64) × (task < 64) }
     ensures { Became book.old book.new (with_cell order task v) }
 {
     book[cell_at(order, task) as usize] = v;
 }
 
 // Number i joins row r of a table.
-pub fn add_to_row(book: &mut [u64], table: u64, r: u64, i: u64)
-    requires { Full book.old × (table < table_count) × (r < 64) × (i < 64) }
+pub fn add_to_row(book: &mut Words, table: u64, r: u64, i: u64)
+    requires { (table < table_count) × (r < 64) × (i < 64) }
     ensures { Became book.old book.new (with_member table r i) }
 {
     let mask = row(book, table, r);
@@ -155,8 +158,8 @@ pub fn add_to_row(book: &mut [u64], table: u64, r: u64, i: u64)
 }
 
 // Number i leaves row r of a table.
-pub fn take_from_row(book: &mut [u64], table: u64, r: u64, i: u64)
-    requires { Full book.old × (table < table_count) × (r < 64) × (i < 64) }
+pub fn take_from_row(book: &mut Words, table: u64, r: u64, i: u64)
+    requires { (table < table_count) × (r < 64) × (i < 64) }
     ensures { Became book.old book.new (without_member table r i) }
 {
     let mask = row(book, table, r);

@@ -4,12 +4,12 @@
 
 ghost use Rattle.std.specs.Prelude.{◌≡◌, true, ◌≤◌, ◌<◌};
 ghost use Rattle.rules.specs.Requests.{set_order, stamped_cell, stamped};
-ghost use Rattle.book.specs.Slice.{Full, Became, with_cell};
+ghost use Rattle.book.specs.Slice.{Became, with_cell};
 ghost use Rattle.cells.specs.Cells.{new_cell};
 
 // The order's task mask is stored, and all its 64 cells become 0.
-pub fn set_order(book: &mut [u64], order: u64, tasks: u64)
-    requires { Full book.old × (order < 64) }
+pub fn set_order(book: &mut book::Words, order: u64, tasks: u64)
+    requires { (order < 64) }
     ensures { Became book.old book.new (λ d. set_order d order tasks) }
 {
     book::set_row(book, book::ORDERS, order, tasks);
@@ -31,8 +31,8 @@ fn stamped_cell(in_subject: bool, e: u64, subject: u64, v: u64) -> u64
 }
 
 // The cell of one task of the role hand, stamped: `narrow` is the subject hand.
-fn stamp_task(book: &mut [u64], order: u64, task: u64, narrow: u64, e: u64, subject: u64)
-    requires { Full book.old × (order < 64) × (task < 64) × (e ≤ 64) × (subject < 64) }
+fn stamp_task(book: &mut book::Words, order: u64, task: u64, narrow: u64, e: u64, subject: u64)
+    requires { (order < 64) × (task < 64) × (e ≤ 64) × (subject < 64) }
     ensures { Became book.old book.new (λ d. with_cell order task (new_cell d order narrow e subject task) d) }
 {
     let v = book::cell(book, order, task);
@@ -41,8 +41,8 @@ fn stamp_task(book: &mut [u64], order: u64, task: u64, narrow: u64, e: u64, subj
 }
 
 // Each cell of the role hand stamped: `wide` is the role hand, `narrow` the subject hand, e the executing role plus 1.
-pub fn stamp(book: &mut [u64], order: u64, wide: u64, narrow: u64, e: u64, subject: u64)
-    requires { Full book.old × (order < 64) × (e ≤ 64) × (subject < 64) }
+pub fn stamp(book: &mut book::Words, order: u64, wide: u64, narrow: u64, e: u64, subject: u64)
+    requires { (order < 64) × (e ≤ 64) × (subject < 64) }
     ensures { Became book.old book.new (λ d. stamped d order wide narrow e subject) }
 {
     let mut left = wide;

@@ -25,7 +25,7 @@ fn staff_table(place: u64) -> u64
 }
 
 // What the kind does, on a well-formed book and arguments that fit; what is no kind is refused.
-fn carry_out(book: &mut [u64], kind: u64, a: u64, b: u64, c: u64) -> Answer
+fn carry_out(book: &mut book::Words, kind: u64, a: u64, b: u64, c: u64) -> Answer
     requires { WellFormed book.old × (fault_of (tables book.old) (row_of kind) a b c ≡ 0) }
     ensures { Settled book.old book.new (row_of kind).deed a b c result }
 {

@@ -5,30 +5,30 @@ ghost use Rattle.std.specs.Prelude.{◌≡◌, [], ◌∷◌, ◌<◌};
 ghost use Rattle.sets.specs.Mask.{bit};
 ghost use Rattle.rules.specs.Trade.{subject_group, role_group};
 ghost use Rattle.rules.specs.Numbers.{role_owns_both, subject_owns_both, sme_conflicts, dme_conflicts, first_of};
-ghost use Rattle.book.specs.Slice.{tables, Full, WellFormed};
+ghost use Rattle.book.specs.Slice.{tables, WellFormed};
 ghost use Rattle.answers.specs.Answers.{said};
 
 use answers::Answer;
 use owners::Owner;
 
 // 23: b lies in the subject group of a.
-fn in_subject_group(book: &[u64], a: u64, b: u64) -> bool
-    requires { Full book.now × (a < 64) × (b < 64) }
+fn in_subject_group(book: &book::Words, a: u64, b: u64) -> bool
+    requires { (a < 64) × (b < 64) }
     ensures { result ≡ bit (subject_group (tables book.now) a) b }
 {
     sets::has(trade::subject_group(book, a), b)
 }
 
 // 24: b lies in the role group of a.
-fn in_role_group(book: &[u64], a: u64, b: u64) -> bool
-    requires { Full book.now × (a < 64) × (b < 64) }
+fn in_role_group(book: &book::Words, a: u64, b: u64) -> bool
+    requires { (a < 64) × (b < 64) }
     ensures { result ≡ bit (role_group (tables book.now) a) b }
 {
     sets::has(trade::role_group(book, a), b)
 }
 
 // 25 and 26: a role, then a subject, owns both tasks.
-fn owned_together(book: &[u64], a: u64, b: u64) -> Answer
+fn owned_together(book: &book::Words, a: u64, b: u64) -> Answer
     requires { WellFormed book.now × (a < 64) × (b < 64) }
     ensures { said result ≡ first_of (role_owns_both ∷ subject_owns_both ∷ []) (tables book.now) a b }
 {
@@ -46,7 +46,7 @@ fn owned_together(book: &[u64], a: u64, b: u64) -> Answer
 }
 
 // Kind 4: 20, 21, 23, 24, 25, 26.
-pub fn sme_conflict(book: &[u64], a: u64, b: u64) -> Answer
+pub fn sme_conflict(book: &book::Words, a: u64, b: u64) -> Answer
     requires { WellFormed book.now × (a < 64) × (b < 64) }
     ensures { said result ≡ first_of sme_conflicts (tables book.now) a b }
 {
@@ -66,8 +66,8 @@ pub fn sme_conflict(book: &[u64], a: u64, b: u64) -> Answer
 }
 
 // Kind 5: 20, 22, 23.
-pub fn dme_conflict(book: &[u64], a: u64, b: u64) -> Answer
-    requires { Full book.now × (a < 64) × (b < 64) }
+pub fn dme_conflict(book: &book::Words, a: u64, b: u64) -> Answer
+    requires { (a < 64) × (b < 64) }
     ensures { said result ≡ first_of dme_conflicts (tables book.now) a b }
 {
     if a == b {

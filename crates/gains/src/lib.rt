@@ -6,7 +6,7 @@ ghost use Rattle.std.specs.Prelude.{◌≡◌, [], ◌∷◌, ◌<◌};
 ghost use Rattle.sets.specs.Mask.{bit};
 ghost use Rattle.rules.specs.Trade.{reach};
 ghost use Rattle.rules.specs.Numbers.{task_assignment, role_assignment, junior_conflicts, role_conflicts, first_of};
-ghost use Rattle.book.specs.Slice.{tables, Full, WellFormed};
+ghost use Rattle.book.specs.Slice.{tables, WellFormed};
 ghost use Rattle.gains.specs.Gains.{gain_of};
 ghost use Rattle.answers.specs.Answers.{said};
 
@@ -21,8 +21,8 @@ pub enum Gain {
 }
 
 // The tasks that are gained.
-fn gain_of(book: &[u64], gain: Gain, a: u64) -> u64
-    requires { Full book.now × (a < 64) }
+fn gain_of(book: &book::Words, gain: Gain, a: u64) -> u64
+    requires { (a < 64) }
     ensures { result ≡ gain_of gain (tables book.now) a }
 {
     match gain {
@@ -32,15 +32,15 @@ fn gain_of(book: &[u64], gain: Gain, a: u64) -> u64
 }
 
 // 30: role a reaches role b.
-fn reaches(book: &[u64], a: u64, b: u64) -> bool
-    requires { Full book.now × (a < 64) × (b < 64) }
+fn reaches(book: &book::Words, a: u64, b: u64) -> bool
+    requires { (a < 64) × (b < 64) }
     ensures { result ≡ bit (reach (tables book.now) a) b }
 {
     sets::has(trade::reach(book, a), b)
 }
 
 // 32: among the subjects that own role b.
-fn subjects_conflict(book: &[u64], gain: Gain, a: u64, b: u64) -> Answer
+fn subjects_conflict(book: &book::Words, gain: Gain, a: u64, b: u64) -> Answer
     requires { WellFormed book.now × (a < 64) × (b < 64) }
     ensures { said result ≡ first_of (role_assignment (gain_of gain) ∷ []) (tables book.now) a b }
 {
@@ -52,7 +52,7 @@ fn subjects_conflict(book: &[u64], gain: Gain, a: u64, b: u64) -> Answer
 }
 
 // Kinds 8 and 9: 31 among b and its seniors, then 32.
-pub fn owners_conflict(book: &[u64], gain: Gain, a: u64, b: u64) -> Answer
+pub fn owners_conflict(book: &book::Words, gain: Gain, a: u64, b: u64) -> Answer
     requires { WellFormed book.now × (a < 64) × (b < 64) }
     ensures { said result ≡ first_of (task_assignment (gain_of gain) ∷ role_assignment (gain_of gain) ∷ []) (tables book.now) a b }
 {
@@ -64,7 +64,7 @@ pub fn owners_conflict(book: &[u64], gain: Gain, a: u64, b: u64) -> Answer
 }
 
 // Kind 9: 29, 30, then 31 and 32.
-pub fn junior_conflict(book: &[u64], a: u64, b: u64) -> Answer
+pub fn junior_conflict(book: &book::Words, a: u64, b: u64) -> Answer
     requires { WellFormed book.now × (a < 64) × (b < 64) }
     ensures { said result ≡ first_of junior_conflicts (tables book.now) a b }
 {
@@ -78,8 +78,8 @@ pub fn junior_conflict(book: &[u64], a: u64, b: u64) -> Answer
 }
 
 // Kind 10: 32 of subject b itself.
-pub fn own_conflict(book: &[u64], a: u64, b: u64) -> Answer
-    requires { Full book.now × (a < 64) × (b < 64) }
+pub fn own_conflict(book: &book::Words, a: u64, b: u64) -> Answer
+    requires { (a < 64) × (b < 64) }
     ensures { said result ≡ first_of role_conflicts (tables book.now) a b }
 {
     let owned = trade::owned_tasks(book, book::row(book, book::ROLES_OF, b));

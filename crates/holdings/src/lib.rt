@@ -5,14 +5,14 @@ ghost use Rattle.std.specs.Prelude.{◌≡◌, ◌<◌};
 ghost use Rattle.rules.specs.Book.{SME, DME};
 ghost use Rattle.rules.specs.Requests.{is_open};
 ghost use Rattle.rules.specs.Numbers.{accepted, given_pair_in, given_lowest_pair, holds, held_conflicts, first_of};
-ghost use Rattle.book.specs.Slice.{tables, Full, WellFormed};
+ghost use Rattle.book.specs.Slice.{tables, WellFormed};
 ghost use Rattle.answers.specs.Answers.{said};
 
 use answers::Answer;
 use search::Found;
 
 // 33, between what c holds in each order and the tasks that c would get. The tasks that are SME to one of these are found once.
-fn sme_held(book: &[u64], c: u64, hand: u64) -> Answer
+fn sme_held(book: &book::Words, c: u64, hand: u64) -> Answer
     requires { WellFormed book.now × (c < 64) }
     ensures { said result ≡ given_lowest_pair 33 (is_open (tables book.now)) (holds SME (tables book.now) c hand) accepted }
 {
@@ -30,8 +30,8 @@ fn sme_held(book: &[u64], c: u64, hand: u64) -> Answer
 }
 
 // 34, between what c holds in order b and the tasks that c would get there.
-fn dme_held(book: &[u64], b: u64, c: u64, hand: u64) -> Answer
-    requires { Full book.now × (b < 64) × (c < 64) }
+fn dme_held(book: &book::Words, b: u64, c: u64, hand: u64) -> Answer
+    requires { (b < 64) × (c < 64) }
     ensures { said result ≡ given_pair_in 34 (holds DME (tables book.now) c hand b) b accepted }
 {
     let held = hands::held_among(book, b, c, !0);
@@ -42,7 +42,7 @@ fn dme_held(book: &[u64], b: u64, c: u64, hand: u64) -> Answer
 }
 
 // Kind 13: 33 of all open orders, then 34 of order b; what c would get is a's subject group there.
-pub fn allocate_conflict(book: &[u64], a: u64, b: u64, c: u64) -> Answer
+pub fn allocate_conflict(book: &book::Words, a: u64, b: u64, c: u64) -> Answer
     requires { WellFormed book.now × (a < 64) × (b < 64) × (c < 64) }
     ensures { said result ≡ first_of (held_conflicts c) (tables book.now) a b }
 {

@@ -3,7 +3,7 @@
 
 ghost use Rattle.std.specs.Prelude.{◌≡◌, ◌<◌};
 ghost use Rattle.sets.specs.Search.{lowest};
-ghost use Rattle.book.specs.Slice.{tables, Full, WellFormed};
+ghost use Rattle.book.specs.Slice.{tables, WellFormed};
 ghost use Rattle.owners.specs.Owners.{start_of, clashes_below, found_clash};
 ghost use Rattle.owners.specs.Rising.{above, Raised, owners_of, starters, starts_in_both};
 
@@ -22,8 +22,8 @@ pub enum Clash {
 }
 
 // The roles that an owner starts with: a role with itself, a subject with its assigned roles.
-pub fn start_of(book: &[u64], owner: Owner, o: u64) -> u64
-    requires { Full book.now × (o < 64) }
+pub fn start_of(book: &book::Words, owner: Owner, o: u64) -> u64
+    requires { (o < 64) }
     ensures { result ≡ start_of (tables book.now) owner o }
 {
     match owner {
@@ -34,8 +34,7 @@ pub fn start_of(book: &[u64], owner: Owner, o: u64) -> u64
 
 // One round upwards: the set with roles that have a junior in it. What is added counts for those that are asked after it, so that a chain
 // which goes up by its numbers takes one round.
-fn raised(book: &[u64], set: u64) -> u64
-    requires { Full book.now }
+fn raised(book: &book::Words, set: u64) -> u64
     ensures { Raised (tables book.now) set result }
 {
     let mut all = set;
@@ -48,8 +47,7 @@ fn raised(book: &[u64], set: u64) -> u64
 }
 
 // The roles of the set and all that reach one of them: round after round, until nothing is added.
-fn above(book: &[u64], set: u64) -> u64
-    requires { Full book.now }
+fn above(book: &book::Words, set: u64) -> u64
     ensures { result ≡ above (tables book.now) set }
 {
     let mut all = set;
@@ -62,8 +60,7 @@ fn above(book: &[u64], set: u64) -> u64
 }
 
 // The roles that own one of the tasks.
-pub fn owners_of(book: &[u64], tasks: u64) -> u64
-    requires { Full book.now }
+pub fn owners_of(book: &book::Words, tasks: u64) -> u64
     ensures { result ≡ owners_of (tables book.now) tasks }
 {
     above(
@@ -73,8 +70,7 @@ pub fn owners_of(book: &[u64], tasks: u64) -> u64
 }
 
 // The owners that start with a role of the set.
-fn starters(book: &[u64], owner: Owner, set: u64) -> u64
-    requires { Full book.now }
+fn starters(book: &book::Words, owner: Owner, set: u64) -> u64
     ensures { result ≡ starters (tables book.now) owner set }
 {
     match owner {
@@ -86,15 +82,14 @@ fn starters(book: &[u64], owner: Owner, set: u64) -> u64
 }
 
 // The lowest owner that starts with a role of each set; 64 where there is none.
-pub fn lowest_starter(book: &[u64], owner: Owner, xs: u64, ys: u64) -> u64
-    requires { Full book.now }
+pub fn lowest_starter(book: &book::Words, owner: Owner, xs: u64, ys: u64) -> u64
     ensures { result ≡ lowest (starts_in_both (tables book.now) owner xs ys) }
 {
     sets::lowest(starters(book, owner, xs) & starters(book, owner, ys))
 }
 
 // Among the owners of role b: the lowest that owns a task SME to one it would gain, and all tasks it owns that are.
-pub fn first_clash(book: &[u64], owner: Owner, b: u64, gain: u64) -> Clash
+pub fn first_clash(book: &book::Words, owner: Owner, b: u64, gain: u64) -> Clash
     requires { WellFormed book.now × (b < 64) }
     ensures { result ≡ found_clash (clashes_below (tables book.now) owner b gain) }
 {

@@ -2,7 +2,7 @@
 ghost use Rattle.std.specs.Prelude.{◌≡◌, ◌<◌};
 ghost use Rattle.rules.specs.Book.{table_count};
 ghost use Rattle.rules.specs.Requests.{unrelate};
-ghost use Rattle.book.specs.Slice.{tables, Full};
+ghost use Rattle.book.specs.Slice.{tables};
 ghost use Rattle.answers.specs.Answers.{said};
 ghost use Rattle.deeds.specs.Outcome.{decide, Settled};
 
@@ -10,8 +10,8 @@ use crate::open_refusal;
 use answers::Answer;
 
 // The answer: 6 where bit b of row a isn't set, whatever row b has; then 7 while an order is open.
-fn judge_back(book: &[u64], table: u64, a: u64, b: u64) -> Answer
-    requires { Full book.now × (table < table_count) × (a < 64) × (b < 64) }
+fn judge_back(book: &book::Words, table: u64, a: u64, b: u64) -> Answer
+    requires { (table < table_count) × (a < 64) × (b < 64) }
     ensures { said result ≡ decide (tables book.now) (unrelate table) a b 0 }
 {
     if !book::is_in_row(book, table, a, b) {
@@ -21,8 +21,8 @@ fn judge_back(book: &[u64], table: u64, a: u64, b: u64) -> Answer
 }
 
 // Both bits of the pair are taken back, the one that 6 asks for last: where the power fails between them, the request can be made again.
-pub fn unrelate(book: &mut [u64], table: u64, a: u64, b: u64) -> Answer
-    requires { Full book.old × (table < table_count) × (a < 64) × (b < 64) }
+pub fn unrelate(book: &mut book::Words, table: u64, a: u64, b: u64) -> Answer
+    requires { (table < table_count) × (a < 64) × (b < 64) }
     ensures { Settled book.old book.new (unrelate table) a b 0 result }
 {
     let answer = judge_back(book, table, a, b);

@@ -8,7 +8,7 @@ ghost use Rattle.std.specs.Prelude.{◌≡◌, ◌<◌};
 ghost use Rattle.rules.specs.Book.{table_count};
 ghost use Rattle.rules.specs.Requests.{relate};
 ghost use Rattle.rules.specs.Numbers.{open_refusal, state_refusal, pair_conflicts, first_of};
-ghost use Rattle.book.specs.Slice.{tables, Full, WellFormed};
+ghost use Rattle.book.specs.Slice.{tables, WellFormed};
 ghost use Rattle.answers.specs.Answers.{said};
 ghost use Rattle.deeds.specs.Outcome.{decide, Settled};
 
@@ -16,8 +16,7 @@ use answers::Answer;
 pub use back::unrelate;
 
 // 7 while an order is open.
-fn open_refusal(book: &[u64]) -> Answer
-    requires { Full book.now }
+fn open_refusal(book: &book::Words) -> Answer
     ensures { said result ≡ open_refusal (tables book.now) }
 {
     let order = search::lowest_open(book);
@@ -28,8 +27,8 @@ fn open_refusal(book: &[u64]) -> Answer
 }
 
 // 5 where the pair is set already, 7 while an order is open.
-fn pair_refusal(book: &[u64], table: u64, a: u64, b: u64) -> Answer
-    requires { Full book.now × (table < table_count) × (a < 64) × (b < 64) }
+fn pair_refusal(book: &book::Words, table: u64, a: u64, b: u64) -> Answer
+    requires { (table < table_count) × (a < 64) × (b < 64) }
     ensures { said result ≡ state_refusal (tables book.now) (relate table) a b 0 }
 {
     if book::is_in_row(book, table, a, b) {
@@ -39,7 +38,7 @@ fn pair_refusal(book: &[u64], table: u64, a: u64, b: u64) -> Answer
 }
 
 // What conflicts with the new pair, by the table. A table that has no pairs is refused.
-fn pair_conflict(book: &[u64], table: u64, a: u64, b: u64) -> Answer
+fn pair_conflict(book: &book::Words, table: u64, a: u64, b: u64) -> Answer
     requires { WellFormed book.now × (a < 64) × (b < 64) }
     ensures { said result ≡ first_of (pair_conflicts table) (tables book.now) a b }
 {
@@ -53,7 +52,7 @@ fn pair_conflict(book: &[u64], table: u64, a: u64, b: u64) -> Answer
 }
 
 // The answer, on the book as it stands.
-fn judge_pair(book: &[u64], table: u64, a: u64, b: u64) -> Answer
+fn judge_pair(book: &book::Words, table: u64, a: u64, b: u64) -> Answer
     requires { WellFormed book.now × (table < table_count) × (a < 64) × (b < 64) }
     ensures { said result ≡ decide (tables book.now) (relate table) a b 0 }
 {
@@ -65,7 +64,7 @@ fn judge_pair(book: &[u64], table: u64, a: u64, b: u64) -> Answer
 }
 
 // Kinds 4 to 7: both bits of the pair, where nothing stands in the way.
-pub fn relate(book: &mut [u64], table: u64, a: u64, b: u64) -> Answer
+pub fn relate(book: &mut book::Words, table: u64, a: u64, b: u64) -> Answer
     requires { WellFormed book.old × (table < table_count) × (a < 64) × (b < 64) }
     ensures { Settled book.old book.new (relate table) a b 0 result }
 {

@@ -4,7 +4,7 @@
 ghost use Rattle.std.specs.Prelude.{◌≡◌, ◌<◌};
 ghost use Rattle.sets.specs.Search.{lowest};
 ghost use Rattle.rules.specs.Book.{table_count, orders, names, bad_active, bad_cell, first_bad};
-ghost use Rattle.book.specs.Slice.{tables, Full};
+ghost use Rattle.book.specs.Slice.{tables};
 ghost use Rattle.scan.specs.Blocks.{has_role, mask_bad, active_bad, row_bad, cell_bad, joined_cells};
 
 // Whether v is 0, or one more than a number of the set.
@@ -56,8 +56,8 @@ fn is_bad_cell(in_order: bool, roles: u64, subjects: u64, v: u64) -> bool
 }
 
 // Whether row r of a table of masks is bad: of an undefined owner any but 0 is, of a defined one what names something that is not known.
-fn is_bad_mask_at(book: &[u64], table: u64, owners: u64, known: u64, r: u64) -> bool
-    requires { Full book.now × (table < table_count) × (r < 64) }
+fn is_bad_mask_at(book: &book::Words, table: u64, owners: u64, known: u64, r: u64) -> bool
+    requires { (table < table_count) × (r < 64) }
     ensures { result ≡ mask_bad (tables book.now) table owners known r }
 {
     let v = book::row(book, table, r);
@@ -68,8 +68,8 @@ fn is_bad_mask_at(book: &[u64], table: u64, owners: u64, known: u64, r: u64) -> 
 }
 
 // The lowest bad row of a table of masks; 64 where there is none.
-fn bad_mask_in(book: &[u64], table: u64, owners: u64, known: u64) -> u64
-    requires { Full book.now × (table < table_count) }
+fn bad_mask_in(book: &book::Words, table: u64, owners: u64, known: u64) -> u64
+    requires { (table < table_count) }
     ensures { result ≡ lowest (mask_bad (tables book.now) table owners known) }
 {
     for r in 0..64 {
@@ -81,8 +81,7 @@ fn bad_mask_in(book: &[u64], table: u64, owners: u64, known: u64) -> u64
 }
 
 // The lowest bad active role; 64 where there is none.
-fn bad_active_in(book: &[u64], subjects: u64, roles: u64) -> u64
-    requires { Full book.now }
+fn bad_active_in(book: &book::Words, subjects: u64, roles: u64) -> u64
     ensures { result ≡ lowest (active_bad (tables book.now) subjects roles) }
 {
     for r in 0..64 {
@@ -98,8 +97,8 @@ fn bad_active_in(book: &[u64], subjects: u64, roles: u64) -> u64
 }
 
 // The lowest bad row of a table; 64 where there is none.
-fn bad_row_in(book: &[u64], table: u64) -> u64
-    requires { Full book.now × (table < table_count) }
+fn bad_row_in(book: &book::Words, table: u64) -> u64
+    requires { (table < table_count) }
     ensures { result ≡ lowest (row_bad (tables book.now) table) }
 {
     let tasks = book::head(book, book::TASKS);
@@ -116,8 +115,8 @@ fn bad_row_in(book: &[u64], table: u64) -> u64
 }
 
 // The cells of an order, joined: 0 where all are 0.
-fn joined_cells(book: &[u64], order: u64) -> u64
-    requires { Full book.now × (order < 64) }
+fn joined_cells(book: &book::Words, order: u64) -> u64
+    requires { (order < 64) }
     ensures { result ≡ joined_cells (tables book.now) order }
 {
     let mut any = 0;
@@ -128,8 +127,8 @@ fn joined_cells(book: &[u64], order: u64) -> u64
 }
 
 // The lowest bad cell of an order with these tasks; 64 where there is none. A cell of 0 is never bad.
-fn bad_cell_among(book: &[u64], order: u64, tasks: u64) -> u64
-    requires { Full book.now × (order < 64) × (tasks ≡ (tables book.now).row orders order) }
+fn bad_cell_among(book: &book::Words, order: u64, tasks: u64) -> u64
+    requires { (order < 64) × (tasks ≡ (tables book.now).row orders order) }
     ensures { result ≡ lowest (cell_bad (tables book.now) order) }
 {
     let roles = book::head(book, book::ROLES);
@@ -147,8 +146,8 @@ fn bad_cell_among(book: &[u64], order: u64, tasks: u64) -> u64
 }
 
 // The lowest bad cell of an order; 64 where there is none. Most orders are closed, and then all their cells are 0.
-fn bad_cell_in(book: &[u64], order: u64) -> u64
-    requires { Full book.now × (order < 64) }
+fn bad_cell_in(book: &book::Words, order: u64) -> u64
+    requires { (order < 64) }
     ensures { result ≡ lowest (cell_bad (tables book.now) order) }
 {
     let tasks = book::row(book, book::ORDERS, order);
@@ -161,8 +160,7 @@ fn bad_cell_in(book: &[u64], order: u64) -> u64
 }
 
 // The lowest bad word; 4,676 where the book is well-formed. Of the head only word 3 can be bad.
-pub fn first_bad(book: &[u64]) -> u64
-    requires { Full book.now }
+pub fn first_bad(book: &book::Words) -> u64
     ensures { result ≡ first_bad (tables book.now) }
 {
     if book::head(book, 3) != 0 {

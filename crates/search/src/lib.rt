@@ -10,7 +10,7 @@ ghost use Rattle.sets.specs.Search.{lowest};
 ghost use Rattle.rules.specs.Requests.{is_open};
 ghost use Rattle.rules.specs.Numbers.{between, outside};
 ghost use Rattle.rules.specs.Audit.{pair_free};
-ghost use Rattle.book.specs.Slice.{tables, Full};
+ghost use Rattle.book.specs.Slice.{tables};
 ghost use Rattle.search.specs.Pairs.{found_pair};
 
 // What a search over pairs gives.
@@ -22,8 +22,8 @@ pub enum Found {
 
 // x of xs the lowest that has a partner, then y its lowest partner: y of ys in x's row of the table. The form is document 01's; since the
 // inner loop begins at the lowest partner, it takes one turn where there is one.
-pub fn first_pair(book: &[u64], table: u64, xs: u64, ys: u64) -> Found
-    requires { Full book.now × (table < table_count) }
+pub fn first_pair(book: &book::Words, table: u64, xs: u64, ys: u64) -> Found
+    requires { (table < table_count) }
     ensures { result ≡ found_pair (between ((tables book.now).row table) xs ys) }
 {
     let mut found = Found::Nothing;
@@ -43,8 +43,8 @@ pub fn first_pair(book: &[u64], table: u64, xs: u64, ys: u64) -> Found
 }
 
 // Number r alone, where row r of the table meets the set; else nothing.
-pub fn meeting_row(book: &[u64], table: u64, set: u64, r: u64) -> u64
-    requires { Full book.now × (table < table_count) × (r < 64) }
+pub fn meeting_row(book: &book::Words, table: u64, set: u64, r: u64) -> u64
+    requires { (table < table_count) × (r < 64) }
     ensures { result ≡ alone_if (λ i. meet ((tables book.now).row table i) set) r }
 {
     if sets::meets(book::row(book, table, r), set) {
@@ -55,8 +55,8 @@ pub fn meeting_row(book: &[u64], table: u64, set: u64, r: u64) -> u64
 }
 
 // The numbers among `those` whose rows of the table meet the set.
-pub fn meeting(book: &[u64], table: u64, those: u64, set: u64) -> u64
-    requires { Full book.now × (table < table_count) }
+pub fn meeting(book: &book::Words, table: u64, those: u64, set: u64) -> u64
+    requires { (table < table_count) }
     ensures { result ≡ picked (λ i. meet ((tables book.now).row table i) set) those }
 {
     let mut out = 0;
@@ -69,8 +69,8 @@ pub fn meeting(book: &[u64], table: u64, those: u64, set: u64) -> u64
 }
 
 // Whether the set holds no pair of the table: no member's row meets the set.
-pub fn is_pair_free(book: &[u64], table: u64, set: u64) -> bool
-    requires { Full book.now × (table < table_count) }
+pub fn is_pair_free(book: &book::Words, table: u64, set: u64) -> bool
+    requires { (table < table_count) }
     ensures { result ≡ pair_free ((tables book.now).row table) set }
 {
     let mut left = set;
@@ -91,8 +91,7 @@ pub fn lowest_outside(xs: u64, ys: u64) -> u64
 }
 
 // The lowest open order; 64 where there is none.
-pub fn lowest_open(book: &[u64]) -> u64
-    requires { Full book.now }
+pub fn lowest_open(book: &book::Words) -> u64
     ensures { result ≡ lowest (is_open (tables book.now)) }
 {
     for p in 0..64 {

@@ -1,6 +1,5 @@
 // All about one thing: what it is, has, excludes and is bound to, and what is in hand.
 ghost use Rattle.std.specs.Prelude.{◌<◌};
-ghost use Rattle.book.specs.Slice.{Full};
 ghost use Rattle.shown.specs.Cells.{cell_count};
 
 use crate::entries;
@@ -15,8 +14,7 @@ pub fn title(paper: &mut [u8], names: &[u8], sort: u64, n: u64) {
 }
 
 // The tasks that exclude one of the set (SME).
-fn excluded(book: &[u64], set: u64) -> u64
-    requires { Full book.now }
+fn excluded(book: &book::Words, set: u64) -> u64
 {
     trade::joined_rows(book, book::SME, book::SME, set)
 }
@@ -39,8 +37,8 @@ enum Relation {
 }
 
 // Whether i is that to n.
-fn is_related(book: &[u64], relation: Relation, n: u64, i: u64) -> bool
-    requires { Full book.now × (n < 64) × (i < 64) }
+fn is_related(book: &book::Words, relation: Relation, n: u64, i: u64) -> bool
+    requires { (n < 64) × (i < 64) }
 {
     match relation {
         Relation::Seniors => sets::has(trade::reach(book, i), n),
@@ -57,8 +55,8 @@ fn is_related(book: &[u64], relation: Relation, n: u64, i: u64) -> bool
 }
 
 // All that are that to n.
-fn related(book: &[u64], relation: Relation, n: u64) -> u64
-    requires { Full book.now × (n < 64) }
+fn related(book: &book::Words, relation: Relation, n: u64) -> u64
+    requires { (n < 64) }
 {
     let mut set: u64 = 0;
     for i in 0..64u64 {
@@ -70,8 +68,8 @@ fn related(book: &[u64], relation: Relation, n: u64) -> u64
 }
 
 // Whether a task of an order is what the thing is asked about: its own task, done in its role, done by its person, or in its order.
-fn concerns(book: &[u64], sort: u64, n: u64, order: u64, task: u64) -> bool
-    requires { Full book.now × (n < 64) × (order < 64) × (task < 64) }
+fn concerns(book: &book::Words, sort: u64, n: u64, order: u64, task: u64) -> bool
+    requires { (n < 64) × (order < 64) × (task < 64) }
 {
     let cell = book::cell(book, order, task);
     match sort {
@@ -83,8 +81,8 @@ fn concerns(book: &[u64], sort: u64, n: u64, order: u64, task: u64) -> bool
 }
 
 // Whether the person holds the task in one open order or another.
-fn is_held(book: &[u64], person: u64, task: u64) -> bool
-    requires { Full book.now × (person < 64) × (task < 64) }
+fn is_held(book: &book::Words, person: u64, task: u64) -> bool
+    requires { (person < 64) × (task < 64) }
 {
     for order in 0..64u64 {
         if entries::is_hand(book, order, task)
@@ -97,15 +95,15 @@ fn is_held(book: &[u64], person: u64, task: u64) -> bool
 }
 
 // Whether nobody has the task of the order in hand, and no role holds it.
-fn is_free(book: &[u64], order: u64, task: u64) -> bool
-    requires { Full book.now × (order < 64) × (task < 64) }
+fn is_free(book: &book::Words, order: u64, task: u64) -> bool
+    requires { (order < 64) × (task < 64) }
 {
     book::cell(book, order, task) == 0
 }
 
 // Whether a task of an order, by its number among all of them, is in hand and concerns the thing.
-fn is_told(book: &[u64], sort: u64, n: u64, at: u64) -> bool
-    requires { Full book.now × (n < 64) × (at < cell_count) }
+fn is_told(book: &book::Words, sort: u64, n: u64, at: u64) -> bool
+    requires { (n < 64) × (at < cell_count) }
 {
     let order = at / 64;
     let task = at % 64;
@@ -123,8 +121,8 @@ fn part(paper: &mut [u8], names: &[u8], about: u64, word: &[u8], entry: Entry) {
 }
 
 // Writes which task of which order is in hand ..
-fn hand_what(paper: &mut [u8], names: &[u8], book: &[u64], about: u64, order: u64, task: u64)
-    requires { Full book.now × (order < 64) × (task < 64) }
+fn hand_what(paper: &mut [u8], names: &[u8], book: &book::Words, about: u64, order: u64, task: u64)
+    requires { (order < 64) × (task < 64) }
 {
     part(
         paper,
@@ -143,8 +141,8 @@ fn hand_what(paper: &mut [u8], names: &[u8], book: &[u64], about: u64, order: u6
 }
 
 // .. and in whose: the role and the person.
-fn hand_whose(paper: &mut [u8], names: &[u8], book: &[u64], about: u64, order: u64, task: u64)
-    requires { Full book.now × (order < 64) × (task < 64) }
+fn hand_whose(paper: &mut [u8], names: &[u8], book: &book::Words, about: u64, order: u64, task: u64)
+    requires { (order < 64) × (task < 64) }
 {
     part(
         paper,
@@ -163,8 +161,8 @@ fn hand_whose(paper: &mut [u8], names: &[u8], book: &[u64], about: u64, order: u
 }
 
 // Writes a line about a task of an order in hand; without the thing that the line is about.
-fn hand(paper: &mut [u8], names: &[u8], book: &[u64], about: u64, order: u64, task: u64)
-    requires { Full book.now × (order < 64) × (task < 64) }
+fn hand(paper: &mut [u8], names: &[u8], book: &book::Words, about: u64, order: u64, task: u64)
+    requires { (order < 64) × (task < 64) }
 {
     output::bytes(paper, b"  in hand       ");
     hand_what(paper, names, book, about, order, task);
@@ -173,8 +171,8 @@ fn hand(paper: &mut [u8], names: &[u8], book: &[u64], about: u64, order: u64, ta
 }
 
 // Writes a task of an order, if it is to be told.
-fn hand_if(paper: &mut [u8], names: &[u8], book: &[u64], sort: u64, n: u64, at: u64)
-    requires { Full book.now × (n < 64) × (at < cell_count) }
+fn hand_if(paper: &mut [u8], names: &[u8], book: &book::Words, sort: u64, n: u64, at: u64)
+    requires { (n < 64) × (at < cell_count) }
 {
     if is_told(book, sort, n, at) {
         hand(paper, names, book, sort, at / 64, at % 64);
@@ -182,8 +180,8 @@ fn hand_if(paper: &mut [u8], names: &[u8], book: &[u64], sort: u64, n: u64, at: 
 }
 
 // Whether no task of any order is to be told.
-fn is_idle(book: &[u64], sort: u64, n: u64) -> bool
-    requires { Full book.now × (n < 64) }
+fn is_idle(book: &book::Words, sort: u64, n: u64) -> bool
+    requires { (n < 64) }
 {
     for at in 0..CELL_COUNT {
         if is_told(book, sort, n, at) {
@@ -194,8 +192,8 @@ fn is_idle(book: &[u64], sort: u64, n: u64) -> bool
 }
 
 // Writes the tasks of orders that concern the thing, one to a line.
-pub fn hands(paper: &mut [u8], names: &[u8], book: &[u64], sort: u64, n: u64)
-    requires { Full book.now × (n < 64) }
+pub fn hands(paper: &mut [u8], names: &[u8], book: &book::Words, sort: u64, n: u64)
+    requires { (n < 64) }
 {
     if is_idle(book, sort, n) {
         output::bytes(paper, b"  in hand        -\n");
@@ -208,8 +206,8 @@ pub fn hands(paper: &mut [u8], names: &[u8], book: &[u64], sort: u64, n: u64)
 
 // The tasks of the role that a person acts in, as long as they own it; without those that exclude one that they hold (SME), which they may
 // do in no order meanwhile.
-fn may_do(book: &[u64], n: u64) -> u64
-    requires { Full book.now × (n < 64) }
+fn may_do(book: &book::Words, n: u64) -> u64
+    requires { (n < 64) }
 {
     let owned = trade::below(book, book::row(book, book::ROLES_OF, n));
     let tasks = trade::owned_tasks(book, entries::of_person(book, n, 2).set & owned);
@@ -217,8 +215,8 @@ fn may_do(book: &[u64], n: u64) -> u64
 }
 
 // What is told of a person: has roles, acts in, owns tasks, may do now, must not own.
-fn fact_of_person(book: &[u64], n: u64, fact: u64) -> Entry
-    requires { Full book.now × (n < 64) }
+fn fact_of_person(book: &book::Words, n: u64, fact: u64) -> Entry
+    requires { (n < 64) }
 {
     match fact {
         0 => entries::of_person(book, n, 1),
@@ -230,8 +228,8 @@ fn fact_of_person(book: &[u64], n: u64, fact: u64) -> Entry
 }
 
 // Of a role: the roles below and above it, its tasks, those it must not own, and whose it is.
-fn fact_of_role(book: &[u64], n: u64, fact: u64) -> Entry
-    requires { Full book.now × (n < 64) }
+fn fact_of_role(book: &book::Words, n: u64, fact: u64) -> Entry
+    requires { (n < 64) }
 {
     match fact {
         0 => entries::of_role(book, n, 1),
@@ -245,8 +243,8 @@ fn fact_of_role(book: &[u64], n: u64, fact: u64) -> Entry
 }
 
 // Of a task: what it excludes and is bound to, its two groups, and who owns it.
-fn fact_of_task(book: &[u64], n: u64, fact: u64) -> Entry
-    requires { Full book.now × (n < 64) }
+fn fact_of_task(book: &book::Words, n: u64, fact: u64) -> Entry
+    requires { (n < 64) }
 {
     match fact {
         0..=5 => entries::of_task(book, n, fact + 1),
@@ -266,8 +264,8 @@ fn facts_of(sort: u64) -> u64 {
 }
 
 // One of the facts. Of an order it is the tasks that nobody has in hand and no role holds.
-fn fact_of(book: &[u64], sort: u64, n: u64, fact: u64) -> Entry
-    requires { Full book.now × (n < 64) }
+fn fact_of(book: &book::Words, sort: u64, n: u64, fact: u64) -> Entry
+    requires { (n < 64) }
 {
     match sort {
         labels::TASK => fact_of_task(book, n, fact),
@@ -329,8 +327,8 @@ fn put(paper: &mut [u8], names: &[u8], entry: Entry) {
 }
 
 // Writes a fact, if there is one of that number.
-fn fact_if(paper: &mut [u8], names: &[u8], book: &[u64], sort: u64, n: u64, fact: u64)
-    requires { Full book.now × (n < 64) }
+fn fact_if(paper: &mut [u8], names: &[u8], book: &book::Words, sort: u64, n: u64, fact: u64)
+    requires { (n < 64) }
 {
     if fact < facts_of(sort) {
         label(paper, sort, fact);
@@ -339,8 +337,8 @@ fn fact_if(paper: &mut [u8], names: &[u8], book: &[u64], sort: u64, n: u64, fact
 }
 
 // Writes the facts, one to a line.
-pub fn facts(paper: &mut [u8], names: &[u8], book: &[u64], sort: u64, n: u64)
-    requires { Full book.now × (n < 64) }
+pub fn facts(paper: &mut [u8], names: &[u8], book: &book::Words, sort: u64, n: u64)
+    requires { (n < 64) }
 {
     for fact in 0..8u64 {
         fact_if(paper, names, book, sort, n, fact);
@@ -348,8 +346,8 @@ pub fn facts(paper: &mut [u8], names: &[u8], book: &[u64], sort: u64, n: u64)
 }
 
 // Writes how many tasks an order has.
-pub fn size(paper: &mut [u8], book: &[u64], sort: u64, n: u64)
-    requires { Full book.now × (n < 64) }
+pub fn size(paper: &mut [u8], book: &book::Words, sort: u64, n: u64)
+    requires { (n < 64) }
 {
     if sort == labels::ORDER {
         output::bytes(paper, b"  how many tasks ");

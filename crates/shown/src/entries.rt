@@ -2,7 +2,7 @@
 ghost use Rattle.std.specs.Prelude.{◌≡◌, ◌<◌};
 ghost use Rattle.sets.specs.Mask.{bit};
 ghost use Rattle.rules.specs.Book.{orders};
-ghost use Rattle.book.specs.Slice.{tables, Full};
+ghost use Rattle.book.specs.Slice.{tables};
 
 // How many cells the book has: one for each task of each order.
 pub const CELL_COUNT: u64 = 4096;
@@ -47,8 +47,8 @@ pub fn one(word: u64) -> u64 {
 }
 
 // Whether the book has the thing: it is defined, or an order that is open.
-pub fn is_known(book: &[u64], sort: u64, n: u64) -> bool
-    requires { Full book.now × (n < 64) }
+pub fn is_known(book: &book::Words, sort: u64, n: u64) -> bool
+    requires { (n < 64) }
 {
     match sort {
         labels::TASK => sets::has(book::head(book, book::TASKS), n),
@@ -59,8 +59,8 @@ pub fn is_known(book: &[u64], sort: u64, n: u64) -> bool
 }
 
 // What a person stands at, by the column: their number, roles, active role, tasks.
-pub fn of_person(book: &[u64], n: u64, column: u64) -> Entry
-    requires { Full book.now × (n < 64) }
+pub fn of_person(book: &book::Words, n: u64, column: u64) -> Entry
+    requires { (n < 64) }
 {
     let assigned = book::row(book, book::ROLES_OF, n);
     match column {
@@ -72,8 +72,8 @@ pub fn of_person(book: &[u64], n: u64, column: u64) -> Entry
 }
 
 // A role: its number, direct juniors, tasks assigned, tasks owned.
-pub fn of_role(book: &[u64], n: u64, column: u64) -> Entry
-    requires { Full book.now × (n < 64) }
+pub fn of_role(book: &book::Words, n: u64, column: u64) -> Entry
+    requires { (n < 64) }
 {
     match column {
         0 => roles(only(n)),
@@ -84,8 +84,8 @@ pub fn of_role(book: &[u64], n: u64, column: u64) -> Entry
 }
 
 // A task: its number, what it excludes and is bound to, its two groups.
-pub fn of_task(book: &[u64], n: u64, column: u64) -> Entry
-    requires { Full book.now × (n < 64) }
+pub fn of_task(book: &book::Words, n: u64, column: u64) -> Entry
+    requires { (n < 64) }
 {
     match column {
         0 => tasks(only(n)),
@@ -99,8 +99,8 @@ pub fn of_task(book: &[u64], n: u64, column: u64) -> Entry
 }
 
 // A task of an order: the order, the task, the executing role and person.
-pub fn of_hand(book: &[u64], order: u64, task: u64, column: u64) -> Entry
-    requires { Full book.now × (order < 64) × (task < 64) }
+pub fn of_hand(book: &book::Words, order: u64, task: u64, column: u64) -> Entry
+    requires { (order < 64) × (task < 64) }
 {
     let cell = book::cell(book, order, task);
     match column {
@@ -115,8 +115,8 @@ pub fn of_hand(book: &[u64], order: u64, task: u64, column: u64) -> Entry
 }
 
 // Whether the order has the task.
-pub fn is_hand(book: &[u64], order: u64, task: u64) -> bool
-    requires { Full book.now × (order < 64) × (task < 64) }
+pub fn is_hand(book: &book::Words, order: u64, task: u64) -> bool
+    requires { (order < 64) × (task < 64) }
     ensures { result ≡ bit ((tables book.now).row orders order) task }
 {
     book::is_in_row(book, book::ORDERS, order, task)

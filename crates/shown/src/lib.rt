@@ -7,10 +7,9 @@ mod entries;
 mod tables;
 
 ghost use Rattle.std.specs.Prelude.{◌<◌};
-ghost use Rattle.book.specs.Slice.{Full};
 
 // Writes the whole book.
-pub fn book(paper: &mut [u8], names: &[u8], book: &[u64]) {
+pub fn book(paper: &mut [u8], names: &[u8], book: &book::Words) {
     if book.len() == book::WORDS {
         tables::table(paper, names, book, tables::PEOPLE);
         tables::table(paper, names, book, tables::ROLES);
@@ -35,8 +34,8 @@ fn nothing(paper: &mut [u8], names: &[u8], sort: u64, n: u64) {
 }
 
 // Writes all about a thing that is in the book.
-fn known(paper: &mut [u8], names: &[u8], book: &[u64], sort: u64, n: u64)
-    requires { Full book.now × (n < 64) }
+fn known(paper: &mut [u8], names: &[u8], book: &book::Words, sort: u64, n: u64)
+    requires { (n < 64) }
 {
     about::title(paper, names, sort, n);
     about::size(paper, book, sort, n);

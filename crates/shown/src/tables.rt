@@ -1,6 +1,5 @@
 // The four tables. Each column is as wide as its widest entry or its heading: the widths come first, then the lines.
 ghost use Rattle.std.specs.Prelude.{◌<◌};
-ghost use Rattle.book.specs.Slice.{Full};
 ghost use Rattle.shown.specs.Cells.{cell_count};
 
 use crate::entries;
@@ -65,8 +64,8 @@ fn lines(table: u64) -> u64 {
 }
 
 // Whether a line of a table is there.
-fn is_line(book: &[u64], table: u64, line: u64) -> bool
-    requires { Full book.now × (line < cell_count) }
+fn is_line(book: &book::Words, table: u64, line: u64) -> bool
+    requires { (line < cell_count) }
 {
     match table {
         PEOPLE => entries::is_known(book, labels::PERSON, line % 64),
@@ -77,8 +76,8 @@ fn is_line(book: &[u64], table: u64, line: u64) -> bool
 }
 
 // What stands in a line and a column of a table.
-fn entry(book: &[u64], table: u64, line: u64, column: u64) -> Entry
-    requires { Full book.now × (line < cell_count) }
+fn entry(book: &book::Words, table: u64, line: u64, column: u64) -> Entry
+    requires { (line < cell_count) }
 {
     match table {
         PEOPLE => entries::of_person(book, line % 64, column),
@@ -98,8 +97,8 @@ fn larger(left: u64, right: u64) -> u64 {
 }
 
 // How wide a column must be for a line, beside what it must be for others.
-fn widened(names: &[u8], book: &[u64], table: u64, line: u64, column: u64, wide: u64) -> u64
-    requires { Full book.now × (line < cell_count) }
+fn widened(names: &[u8], book: &book::Words, table: u64, line: u64, column: u64, wide: u64) -> u64
+    requires { (line < cell_count) }
 {
     if is_line(book, table, line) {
         larger(wide, entry_width(names, entry(book, table, line, column)))
@@ -109,8 +108,7 @@ fn widened(names: &[u8], book: &[u64], table: u64, line: u64, column: u64, wide:
 }
 
 // How wide a column is.
-fn column_width(names: &[u8], book: &[u64], table: u64, column: u64) -> u64
-    requires { Full book.now }
+fn column_width(names: &[u8], book: &book::Words, table: u64, column: u64) -> u64
 {
     let end = lines(table);
     let mut wide = heading_width(table, column);
@@ -129,8 +127,7 @@ fn set_width(widths: &mut [u64], column: usize, to: u64) {
 }
 
 // Notes how wide the columns of a table are.
-fn measure(widths: &mut [u64], names: &[u8], book: &[u64], table: u64)
-    requires { Full book.now }
+fn measure(widths: &mut [u64], names: &[u8], book: &book::Words, table: u64)
 {
     for column in 0..COLUMNS {
         set_width(
@@ -208,13 +205,13 @@ fn put(paper: &mut [u8], names: &[u8], table: u64, column: usize, entry: Entry, 
 fn put_entry(
     paper: &mut [u8],
     names: &[u8],
-    book: &[u64],
+    book: &book::Words,
     table: u64,
     line: u64,
     column: usize,
     widths: &[u64],
 )
-    requires { Full book.now × (line < cell_count) × (column < 7) }
+    requires { (line < cell_count) × (column < 7) }
 {
     if column <= last_column(table) {
         put(
@@ -229,8 +226,8 @@ fn put_entry(
 }
 
 // Writes a line.
-fn put_line(paper: &mut [u8], names: &[u8], book: &[u64], table: u64, line: u64, widths: &[u64])
-    requires { Full book.now × (line < cell_count) }
+fn put_line(paper: &mut [u8], names: &[u8], book: &book::Words, table: u64, line: u64, widths: &[u64])
+    requires { (line < cell_count) }
 {
     for column in 0..COLUMNS {
         put_entry(paper, names, book, table, line, column, widths);
@@ -239,8 +236,8 @@ fn put_line(paper: &mut [u8], names: &[u8], book: &[u64], table: u64, line: u64,
 }
 
 // Writes a line, if it is there.
-fn put_known(paper: &mut [u8], names: &[u8], book: &[u64], table: u64, line: u64, widths: &[u64])
-    requires { Full book.now × (line < cell_count) }
+fn put_known(paper: &mut [u8], names: &[u8], book: &book::Words, table: u64, line: u64, widths: &[u64])
+    requires { (line < cell_count) }
 {
     if is_line(book, table, line) {
         put_line(paper, names, book, table, line, widths);
@@ -248,8 +245,7 @@ fn put_known(paper: &mut [u8], names: &[u8], book: &[u64], table: u64, line: u64
 }
 
 // Writes the lines.
-fn put_lines(paper: &mut [u8], names: &[u8], book: &[u64], table: u64, widths: &[u64])
-    requires { Full book.now }
+fn put_lines(paper: &mut [u8], names: &[u8], book: &book::Words, table: u64, widths: &[u64])
 {
     let end = lines(table);
     let mut line: u64 = 0;
@@ -260,8 +256,7 @@ fn put_lines(paper: &mut [u8], names: &[u8], book: &[u64], table: u64, widths: &
 }
 
 // Writes a table, with an empty line before it.
-pub fn table(paper: &mut [u8], names: &[u8], book: &[u64], table: u64)
-    requires { Full book.now }
+pub fn table(paper: &mut [u8], names: &[u8], book: &book::Words, table: u64)
 {
     let mut widths = [0u64; COLUMNS];
     measure(&mut widths, names, book, table);

@@ -5,7 +5,7 @@ ghost use Rattle.std.specs.Prelude.{◌≡◌, ◌<◌};
 ghost use Rattle.rules.specs.Book.{table_count};
 ghost use Rattle.rules.specs.Requests.{assign};
 ghost use Rattle.rules.specs.Numbers.{state_refusal, assign_conflicts, first_of};
-ghost use Rattle.book.specs.Slice.{tables, Full, WellFormed};
+ghost use Rattle.book.specs.Slice.{tables, WellFormed};
 ghost use Rattle.answers.specs.Answers.{said};
 ghost use Rattle.deeds.specs.Outcome.{decide, Settled};
 
@@ -13,8 +13,8 @@ use answers::Answer;
 use gains::Gain;
 
 // 5 where it is assigned already.
-fn assign_refusal(book: &[u64], table: u64, a: u64, b: u64) -> Answer
-    requires { Full book.now × (table < table_count) × (a < 64) × (b < 64) }
+fn assign_refusal(book: &book::Words, table: u64, a: u64, b: u64) -> Answer
+    requires { (table < table_count) × (a < 64) × (b < 64) }
     ensures { said result ≡ state_refusal (tables book.now) (assign table) a b 0 }
 {
     if book::is_in_row(book, table, b, a) {
@@ -24,7 +24,7 @@ fn assign_refusal(book: &[u64], table: u64, a: u64, b: u64) -> Answer
 }
 
 // What conflicts, by the table: tasks of roles, juniors, roles of subjects. A table that nothing is assigned in is refused.
-fn assign_conflict(book: &[u64], table: u64, a: u64, b: u64) -> Answer
+fn assign_conflict(book: &book::Words, table: u64, a: u64, b: u64) -> Answer
     requires { WellFormed book.now × (a < 64) × (b < 64) }
     ensures { said result ≡ first_of (assign_conflicts table) (tables book.now) a b }
 {
@@ -37,7 +37,7 @@ fn assign_conflict(book: &[u64], table: u64, a: u64, b: u64) -> Answer
 }
 
 // The answer, on the book as it stands.
-fn judge_assignment(book: &[u64], table: u64, a: u64, b: u64) -> Answer
+fn judge_assignment(book: &book::Words, table: u64, a: u64, b: u64) -> Answer
     requires { WellFormed book.now × (table < table_count) × (a < 64) × (b < 64) }
     ensures { said result ≡ decide (tables book.now) (assign table) a b 0 }
 {
@@ -49,7 +49,7 @@ fn judge_assignment(book: &[u64], table: u64, a: u64, b: u64) -> Answer
 }
 
 // Kinds 8 to 10: number a joins row b of the table, where nothing stands in the way.
-pub fn assign(book: &mut [u64], table: u64, a: u64, b: u64) -> Answer
+pub fn assign(book: &mut book::Words, table: u64, a: u64, b: u64) -> Answer
     requires { WellFormed book.old × (table < table_count) × (a < 64) × (b < 64) }
     ensures { Settled book.old book.new (assign table) a b 0 result }
 {

@@ -6,7 +6,7 @@ ghost use Rattle.sets.specs.Mask.{meet};
 ghost use Rattle.rules.specs.Book.{table_count};
 ghost use Rattle.rules.specs.Trade.{reach};
 ghost use Rattle.rules.specs.Audit.{of_four, not_own, symmetric, owner_free};
-ghost use Rattle.book.specs.Slice.{tables, Full};
+ghost use Rattle.book.specs.Slice.{tables};
 ghost use Rattle.owners.specs.Owners.{start_of};
 ghost use Rattle.table_rules.specs.Rows.{row_kept};
 
@@ -18,8 +18,8 @@ pub enum RowRule {
 }
 
 // Rule 2 in one table: u is in the row of each task of its own row.
-fn is_two_sided(book: &[u64], table: u64, u: u64) -> bool
-    requires { Full book.now × (table < table_count) × (u < 64) }
+fn is_two_sided(book: &book::Words, table: u64, u: u64) -> bool
+    requires { (table < table_count) × (u < 64) }
     ensures { result ≡ symmetric ((tables book.now).row table) u }
 {
     let mut left = book::row(book, table, u);
@@ -33,8 +33,8 @@ fn is_two_sided(book: &[u64], table: u64, u: u64) -> bool
 }
 
 // Rule 1 or 2 in one table.
-fn is_kept_in(book: &[u64], rule: RowRule, table: u64, t: u64) -> bool
-    requires { Full book.now × (table < table_count) × (t < 64) }
+fn is_kept_in(book: &book::Words, rule: RowRule, table: u64, t: u64) -> bool
+    requires { (table < table_count) × (t < 64) }
     ensures { result ≡ row_kept rule ((tables book.now).row table) t }
 {
     match rule {
@@ -44,8 +44,8 @@ fn is_kept_in(book: &[u64], rule: RowRule, table: u64, t: u64) -> bool
 }
 
 // Rule 1 or 2 in all four pair tables.
-pub fn is_kept_in_four(book: &[u64], rule: RowRule, t: u64) -> bool
-    requires { Full book.now × (t < 64) }
+pub fn is_kept_in_four(book: &book::Words, rule: RowRule, t: u64) -> bool
+    requires { (t < 64) }
     ensures { result ≡ of_four (row_kept rule) (tables book.now) t }
 {
     is_kept_in(book, rule, book::SME, t)
@@ -54,24 +54,24 @@ pub fn is_kept_in_four(book: &[u64], rule: RowRule, t: u64) -> bool
 }
 
 // Rules 3, 4 and 5: t's row has none of the others.
-pub fn is_apart(book: &[u64], table: u64, others: u64, t: u64) -> bool
-    requires { Full book.now × (table < table_count) × (t < 64) }
+pub fn is_apart(book: &book::Words, table: u64, others: u64, t: u64) -> bool
+    requires { (table < table_count) × (t < 64) }
     ensures { result ≡ not (meet ((tables book.now).row table t) others) }
 {
     !sets::meets(book::row(book, table, t), others)
 }
 
 // Rule 6: role r doesn't reach itself.
-pub fn is_acyclic(book: &[u64], r: u64) -> bool
-    requires { Full book.now × (r < 64) }
+pub fn is_acyclic(book: &book::Words, r: u64) -> bool
+    requires { (r < 64) }
     ensures { result ≡ not_own (reach (tables book.now)) r }
 {
     !sets::has(trade::reach(book, r), r)
 }
 
 // Rules 7 and 8: an owner owns no task that is SME to one of its own.
-pub fn is_owner_free(book: &[u64], owner: owners::Owner, o: u64) -> bool
-    requires { Full book.now × (o < 64) }
+pub fn is_owner_free(book: &book::Words, owner: owners::Owner, o: u64) -> bool
+    requires { (o < 64) }
     ensures { result ≡ owner_free (tables book.now) (start_of (tables book.now) owner) o }
 {
     let owned = trade::owned_tasks(book, owners::start_of(book, owner, o));

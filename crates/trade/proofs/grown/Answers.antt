@@ -13,7 +13,7 @@ returns-then-steps-eq0 c = close_none _ _ _ c.if-steps-eq0.true
 pub returns-then-more-eq0 : goal.returns-then-more-eq0
 returns-then-more-eq0 c =
     let s = c.args in
-    let step = ap (bit_or s.set) c.joined_rows.ensures ∙ c.requires.3 in
+    let step = ap (bit_or s.set) c.joined_rows.ensures ∙ c.requires.2 in
     close_still (mixed (tables s.book.now) s.first s.second) s.set _ (search rules) (search rules) step s.steps
     c.if-steps-eq0.false c.if-more-eq0.true
 
@@ -23,7 +23,7 @@ widened-requires c =
     let j = c.joined_rows in
     let laid = c.mixed_rows-rows in
     let rows = mixed (tables s.book.now) s.first s.second in
-    let step = ap (bit_or s.set) j.ensures ∙ c.requires.3 ∙ sym (widen_same (words laid.result) rows laid.ensures s.set) in
+    let step = ap (bit_or s.set) j.ensures ∙ c.requires.2 ∙ sym (widen_same (words laid.result) rows laid.ensures s.set) in
     frontier (words laid.result) s.set _ (search rules) (search rules) step
 
 pub returns : goal.returns
@@ -31,7 +31,7 @@ returns c =
     let s = c.args in
     let laid = c.mixed_rows-rows in
     let rows = mixed (tables s.book.now) s.first s.second in
-    let step = ap (bit_or s.set) c.joined_rows.ensures ∙ c.requires.3 in
+    let step = ap (bit_or s.set) c.joined_rows.ensures ∙ c.requires.2 in
     c.widened.ensures
     ∙ close_same (words laid.result) rows laid.ensures _ _
     ∙ close_on rows s.set _ (search rules) (search rules) step s.steps

@@ -25,7 +25,7 @@ grown-requires c =
     let s = c.args in
     let j = c.joined_rows in
     let rows = mixed (tables s.book.now) s.first s.second in
-    (search rules, search rules, search rules, frontier rows s.set _ (search rules) (search rules) (ap (bit_or s.set) j.ensures))
+    (search rules, search rules, frontier rows s.set _ (search rules) (search rules) (ap (bit_or s.set) j.ensures))
 
 pub returns : goal.returns
 unfolding widen
