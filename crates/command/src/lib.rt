@@ -12,29 +12,17 @@ const ERRORS: i32 = 2;
 
 const TO_COMMAND: i32 = 3;
 
-// A request was refused, where it was asked to tell that.
-pub const REFUSED: u8 = 1;
-
-// Reading or writing failed.
-pub const BROKEN: u8 = 3;
+// How a run went, where it did not go well: the digit that the command is told.
+#[derive(Clone, Copy)]
+pub enum Fault {
+    // A request was refused, where it was asked to tell that.
+    Refused = 1,
+    // Reading or writing failed.
+    Broken = 3,
+}
 
 // The status of a program that ends since the reader of its output has closed it, as the signal of that would end it.
 pub const CLOSED: u8 = 141;
-
-// Whether two texts are the same.
-fn is_same(left: &[u8], right: &[u8]) -> bool {
-    if left.len() != right.len() {
-        return false;
-    }
-    let mut i: usize = 0;
-    while i < left.len() && i < right.len() {
-        if left[i] != right[i] {
-            return false;
-        }
-        i += 1;
-    }
-    true
-}
 
 // Whether argument i is the option, if there is such an argument. One that does not fit is taken as empty.
 fn is_argument(system: &impl Env, i: usize, option: &[u8]) -> Option<bool> {
@@ -44,24 +32,19 @@ fn is_argument(system: &impl Env, i: usize, option: &[u8]) -> Option<bool> {
         Err(FillError::TooLong) => 0,
         Err(FillError::NotPresent) => return None,
     };
-    Some(is_same(&room[..got], option))
+    Some(&room[..got] == option)
 }
 
 // Whether the program was started with the option.
 pub fn has_option(system: &impl Env, option: &[u8]) -> bool {
-    for i in 1..usize::MAX {
-        match is_argument(system, i, option) {
-            Some(true) => return true,
-            Some(false) => {}
-            None => return false,
-        }
-    }
-    false
+    (1..usize::MAX)
+        .map_while(|i| is_argument(system, i, option))
+        .any(|same| same)
 }
 
-// Tells the command how it went: REFUSED or BROKEN.
-pub fn end(status: u8) {
-    let digit = [b'0' + status % 10];
+// Tells the command what went wrong.
+pub fn end(fault: Fault) {
+    let digit = [b'0' + fault as u8];
     io::write_all(TO_COMMAND, &digit);
 }
 
