@@ -9,9 +9,11 @@ use lib.ListN.{get_or}
 use lib.Bits.{bit_or, or_add_and, and_le_l, and_le_r}
 use borrow.Author.Tests.{ne_eqb}
 use Rattle.sets.specs.Mask.{bit, only, joined}
+use Rattle.std.specs.Prelude.{Option, Some, None, MatchOption}
 use Rattle.sets.specs.Search.{lowest_from, lowest}
+use Rattle.sets.specs.Members.{IsLowest}
 use Rattle.sets.proofs.MaskLaws.{in_full, only_yes}
-use Rattle.sets.proofs.SearchLaws.{lowest_passes, lowest_first, lowest_is, lowest_same}
+use Rattle.sets.proofs.SearchLaws.{lowest_passes, lowest_first, lowest_is, lowest_end, lowest_same}
 use Rattle.rules.specs.Book.{Book, book_words, head_words, table_count, tasks, roles, subjects, active}
 use Rattle.rules.specs.Book.{bad_mask, bad_active, RowTest, masks, actives, order_masks, row_tests, bad_row, bad, first_bad}
 use Rattle.rules.proofs.WordLaws.{bad_word, bad_head, bad_row_lem}
@@ -35,10 +37,11 @@ module _ (f : ℕ → Bool) (i : ℕ) (none : NoneBelow f i) where
           ap f e ∙ lowest_first 64 0 (λ r. f (i + r)) (j - i) (omega arith) (omega arith)
 
   -- and that is what the whole search finds.
-  pub block_at : (n : ℕ) {x : ℕ} → x ≡ lowest (λ r. f (i + r)) → x < 64 → i + x < n → i + x ≡ lowest_from n 0 f
-  block_at n {x} e h l =
-      sym (lowest_is n 0 f (i + x) (omega arith) (omega arith) (ap (λ (r : ℕ). f (i + r)) e ∙ lowest_passes 64 0 (λ r. f (i + r)) (omega arith))
-      (λ j a b. block_on x (omega arith) j b))
+  pub block_at : (n : ℕ) {x : ℕ} → (x < 64) × (lowest (λ r. f (i + r)) ≡ x) → i + x < n → lowest_from n 0 f ≡ i + x
+  block_at n {x} h l =
+      lowest_is n 0 f (i + x) (omega arith) (omega arith)
+      (ap (λ (r : ℕ). f (i + r)) (sym h.1) ∙ lowest_passes 64 0 (λ r. f (i + r)) (omega arith))
+      (λ j a b. block_on x (omega arith) j b)
 
 module _ (d : Book) where
   -- Words 0 to 2 are never bad ..
@@ -50,9 +53,9 @@ module _ (d : Book) where
       go false = refl
 
   -- .. so word 3 is the lowest bad one where it is not 0 ..
-  pub gap_bad : (d.head 3 ≡ 0 → ⊥) → 3 ≡ first_bad d
+  pub gap_bad : (d.head 3 ≡ 0 → ⊥) → first_bad d ≡ 3
   unfolding first_bad
-  gap_bad n = sym (lowest_is book_words 0 (bad d) 3 (omega arith) (omega arith) (bad_head d 3 (omega arith) ∙ some_word true refl n) (λ j a b. head_good j b))
+  gap_bad n = lowest_is book_words 0 (bad d) 3 (omega arith) (omega arith) (bad_head d 3 (omega arith) ∙ some_word true refl n) (λ j a b. head_good j b)
 
   -- .. and where it is, no word of the head is bad.
   pub past_head : d.head 3 ≡ 0 → NoneBelow (bad d) head_words
@@ -129,3 +132,15 @@ cells_none f (suc n) h e t l = go (dec_lt t n) (λ z q. cells_none f n (omega ar
     go (no q) before =
         let at : t ≡ n = omega arith in
         let none : last ≡ 0 = omega (arith, e, or_add_and some last, and_le_l some last) in ap f at ∙ sym (only_yes _ (f n) (in_full n (omega arith))) ∙ none
+
+-- As the library's search through a range says it: what is found is the lowest that passes.
+pub found_lowest : (f : ℕ → Bool) (o : Option ℕ)
+    → MatchOption o ((k : ℕ) → 0 ≤ k → k < 64 → f k ≡ false) (λ i. (0 ≤ i) × (i < 64) × (f i ≡ true) × ((k : ℕ) → 0 ≤ k → k < i → f k ≡ false))
+    → IsLowest f o
+found_lowest f None h = sym (lowest_end 64 f (λ k l. h k (omega arith) l))
+found_lowest f (Some i) h = (h.1, lowest_is 64 0 f i (omega arith) (omega arith) h.2 h.3)
+
+-- Two tests that agree on 0 to 63 find the same.
+pub found_same : (f g : ℕ → Bool) (o : Option ℕ) → lowest f ≡ lowest g → IsLowest f o → IsLowest g o
+found_same f g None e h = sym e ∙ h
+found_same f g (Some i) e h = (h.0, sym e ∙ h.1)
