@@ -1,5 +1,5 @@
 // What an allocation asks of an order and a subject: the two hands of a task, what the subject holds, and whether it owns its active role now.
-// Whoever calls these has seen that the slice is full and that the numbers are below 64.
+// Whoever calls these has seen that the numbers are below 64.
 #![tactic(auto)]
 
 ghost use Rattle.std.specs.Prelude.{◌≡◌, ◌<◌};
@@ -18,6 +18,7 @@ pub fn role_hand(book: &book::Words, task: u64, order: u64) -> u64
 }
 
 // The tasks of the order in the subject group of a task.
+// Stays: one function for both, with the group as a closure, would take more words at each call than the one line that differs.
 pub fn subject_hand(book: &book::Words, task: u64, order: u64) -> u64
     requires { (task < 64) × (order < 64) }
     ensures { result ≡ subject_hand (tables book.now) task order }
@@ -42,11 +43,10 @@ pub fn held_among(book: &book::Words, order: u64, subject: u64, those: u64) -> u
     requires { (order < 64) × (subject < 64) }
     ensures { result ≡ bit_and (held_by (tables book.now) order subject) those }
 {
+    let asked = book::row(book, book::ORDERS, order) & those;
     let mut held = 0;
-    let mut left = book::row(book, book::ORDERS, order) & those;
-    while left != 0 {
-        held = held | held_row(book, order, subject, sets::lowest(left));
-        left = sets::rest(left);
+    for t in sets::each(asked) {
+        held |= held_row(book, order, subject, t);
     }
     held
 }
@@ -57,11 +57,9 @@ pub fn active_owned(book: &book::Words, subject: u64) -> bool
     ensures { result ≡ active_owned (tables book.now) subject }
 {
     let e = book::row(book, book::ACTIVE, subject);
-    if e == 0 {
-        return false;
+    match e {
+        0 => false,
+        1..=64 => trade::owns_role(book, subject, e - 1),
+        _ => false,
     }
-    if e > 64 {
-        return false;
-    }
-    trade::owns_role(book, subject, e - 1)
 }
