@@ -12,7 +12,7 @@ pub returns-in-Some : goal.returns-in-Some
 returns-in-Some c =
     let s = c.args in
     let d = tables s.book.now in
-    let sized = read_sized (words s.book.now) (λ i. omega (arith, c.fits-book i)) in
+    let sized = read_sized (words s.book.now) (λ i h. c.fits-book i) in
     let xs = c.owners_of-xs.ensures in
     let ys = c.owners_of-ys.ensures in
     let a = c.alone.ensures in
@@ -24,7 +24,7 @@ pub returns-in-Some-lowest_starter : goal.returns-in-Some-lowest_starter
 returns-in-Some-lowest_starter c =
     let s = c.args in
     let d = tables s.book.now in
-    let sized = read_sized (words s.book.now) (λ i. omega (arith, c.fits-book i)) in
+    let sized = read_sized (words s.book.now) (λ i h. c.fits-book i) in
     let xs = c.owners_of-xs.ensures in
     let ys = c.owners_of-ys.ensures in
     let a = c.alone.ensures in
@@ -37,7 +37,7 @@ pub returns : goal.returns
 returns c =
     let s = c.args in
     let d = tables s.book.now in
-    let sized = read_sized (words s.book.now) (λ i. omega (arith, c.fits-book i)) in
+    let sized = read_sized (words s.book.now) (λ i h. c.fits-book i) in
     let xs = c.owners_of-xs.ensures in
     let ys = c.owners_of-ys.ensures in
     let a = c.alone.ensures in
