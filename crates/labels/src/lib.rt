@@ -4,7 +4,8 @@
 
 ghost use Rattle.std.specs.Prelude.{◌≡◌, ◌+◌, ◌<◌, ◌≤◌, length};
 ghost use Rattle.std.specs.Option.{SomeIff};
-ghost use Rattle.labels.specs.Names.{is_name_byte, has_name_bytes, is_name, sort_number, row_at, found, with_row, given, name_bytes};
+ghost use Rattle.text.specs.Rows.{filled};
+ghost use Rattle.labels.specs.Names.{is_name_byte, has_name_bytes, is_name, sort_number, row_at, found, given, name_bytes};
 
 // What a number at the panel stands for: a thing of one of the four sorts that have names; or no thing, since it is not used, may be
 // any number, or is a mask of tasks.
@@ -32,7 +33,7 @@ pub const SIZE: usize = 6144;
 fn is_name_byte(byte: u8) -> bool
     ensures { result ≡ is_name_byte byte }
 {
-    byte.is_ascii_alphabetic() || byte.is_ascii_digit() || byte == b'-' || byte == b'_'
+    byte.is_ascii_alphanumeric() | (byte == b'-') | (byte == b'_')
 }
 
 fn has_name_bytes(word: &[u8]) -> bool
@@ -48,7 +49,7 @@ pub fn is_name(word: &[u8]) -> bool
     let [first, ..] = word else {
         return false;
     };
-    word.len() <= WIDTH && !first.is_ascii_digit() && has_name_bytes(word)
+    (word.len() <= WIDTH) & !first.is_ascii_digit() & has_name_bytes(word)
 }
 
 // Which of the sorts with names it is, if it is one: tasks come first in the table, then roles, persons and orders.
@@ -88,12 +89,11 @@ pub fn find(names: &[u8], sort: Sort, word: &[u8]) -> Option<u64>
     }
 }
 
-// The word, filled up with blanks, is written from `at` on.
-fn fill(names: &mut [u8], at: usize, word: &[u8])
-    requires { (at + 24 ≤ length names.old) × (length word.now ≤ 24) }
-    ensures { names.new ≡ with_row names.old at word.now }
+// The row becomes the word, filled up with blanks.
+fn fill(row: &mut [u8], word: &[u8])
+    requires { (length row.old ≡ 24) × (length word.now ≤ 24) }
+    ensures { row.new ≡ filled 24 word.now }
 {
-    let row = &mut names[at..at + WIDTH];
     row.fill(b' ');
     row[..word.len()].copy_from_slice(word);
 }
@@ -102,11 +102,14 @@ fn fill(names: &mut [u8], at: usize, word: &[u8])
 pub fn give(names: &mut [u8], sort: Sort, n: u64, word: &[u8])
     ensures { names.new ≡ given names.old (sort_number sort) n word.now }
 {
-    if names.len() != SIZE || !is_name(word) {
+    if names.len() != SIZE {
         return;
     }
-    if let Some(at) = row_of(sort, n) {
-        fill(names, at, word);
+    let Some(at) = row_of(sort, n) else {
+        return;
+    };
+    if is_name(word) {
+        fill(&mut names[at..at + WIDTH], word);
     }
 }
 
@@ -118,6 +121,8 @@ pub fn name_of<'a>(names: &'a [u8], sort: Sort, n: u64) -> &'a [u8]
         return &[];
     };
     let behind = at + WIDTH;
-    let end = (at..behind).find(|i| text::letter(names, *i) == b' ').unwrap_or(behind);
+    let end = (at..behind)
+        .find(|i| text::letter(names, *i) == b' ')
+        .unwrap_or(behind);
     names.get(at..end).unwrap_or(&[])
 }
