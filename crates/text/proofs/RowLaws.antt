@@ -1,6 +1,7 @@
 -- Laws of rows: what a byte of a slice says of a letter, and the steps by which loops test a row and search the rows.
-use mathlib.Core.Path.{◌≡◌, refl, sym, ap, ◌∙◌, subst}
-use mathlib.Core.Bool.{Bool, true, false}
+use mathlib.Core.Path.{◌≡◌, refl, sym, ap, ap₂, ◌∙◌, subst}
+use mathlib.Core.Bool.{Bool, true, false, ◌&&◌}
+use lib.Dec.{leb, eqb}
 use mathlib.Core.List.{List, [], ◌∷◌, ◌++◌}
 use Prim.Native.Nat.{ℕ, zero, suc, ◌+◌, ◌-◌, ◌≤◌, ◌<◌}
 use native.Mathlib.Nat.{le_of_suc-le-suc, add-sub_of_le}
@@ -62,6 +63,20 @@ pub row_fits : (rows : List ℕ) (start width : ℕ) (word : List ℕ) → lengt
     → same_letters rows start width word ≡ is_row rows start width word
 unfolding is_row
 row_fits rows start width word h = rw (le-leb (length word) width h)
+
+-- Two tests that agree below n pass together.
+all_same : (n : ℕ) (f g : ℕ → Bool) → ((i : ℕ) → i < n → f i ≡ g i) → all n f ≡ all n g
+unfolding all
+all_same zero f g same = refl
+all_same (suc n) f g same =
+    ap₂ (λ (s t : Bool). elim s as (λ (x : Bool). Bool) [ true ↦ t | false ↦ false ]) (all_same n f g (λ i h. same i (omega arith))) (same n (omega arith))
+
+-- Where the letters of two rows are the same, so is what the rows are.
+pub rows_same : (l r : List ℕ) (start from width : ℕ) (word : List ℕ) → ((i : ℕ) → i < width → letter_at l (start + i) ≡ letter_at r (from + i))
+    → is_row l start width word ≡ is_row r from width word
+unfolding is_row same_letters
+rows_same l r start from width word same =
+    ap (λ (t : Bool). leb (length word) width && t) (all_same width _ _ (λ i h. ap (λ (x : ℕ). eqb x (letter_at word i)) (same i h)))
 
 -- Every letter of blanks is a blank.
 blanks_blank : (k i : ℕ) → ◌≡◌ {A = ℕ} (get_or (replicate k 32) i 32) 32
