@@ -1,14 +1,12 @@
 -- A table in which one row was written: that row is the word, and every other is what it was.
-use mathlib.Core.Path.{◌≡◌, refl, sym, ap, ap₂, ◌∙◌}
-use mathlib.Core.Bool.{Bool, true, false, ◌&&◌}
+use mathlib.Core.Path.{◌≡◌, sym, ap, ap₂, ◌∙◌}
+use mathlib.Core.Bool.{true}
 use mathlib.Core.List.{List, ◌++◌}
-use Prim.Native.Nat.{ℕ, zero, suc, ◌+◌, ◌-◌, ◌≤◌, ◌<◌}
+use Prim.Native.Nat.{ℕ, ◌+◌, ◌-◌, ◌≤◌, ◌<◌}
 use native.Mathlib.Omega.{arith}
-use lib.Dec.{leb, eqb}
 use lib.ListN.{length, take, drop, get_or, length-append, get_or-append}
 use lib.Seq.{length-take-le, get_or-append-add, get_or-take, get_or-drop}
 use borrow.Author.Tests.{eq-eqb}
-use Rattle.sets.specs.Search.{all}
 use Rattle.sets.proofs.SearchLaws.{all_in}
 use Rattle.text.specs.Rows.{letter_at, filled, same_letters, is_row}
 use Rattle.text.proofs.RowLaws.{letter_filled, length_filled, row_fits, rows_same}

@@ -20,6 +20,23 @@ pub enum Sort {
     Mask,
 }
 
+// The sort that a number stands for: so whoever has a number asks for no less than with the sort. Past 6 no number stands for any.
+impl From<u64> for Sort {
+    ghost from_gives = { λ n sort. (n < 7 → sort_number sort ≡ n) × (7 ≤ n → sort_number sort ≡ 4) };
+
+    fn from(n: u64) -> Sort {
+        match n {
+            0 => Sort::Task,
+            1 => Sort::Role,
+            2 => Sort::Person,
+            3 => Sort::Order,
+            5 => Sort::Any,
+            6 => Sort::Mask,
+            _ => Sort::Unused,
+        }
+    }
+}
+
 // How many things there are of each sort that has names.
 const THINGS: u64 = 64;
 
