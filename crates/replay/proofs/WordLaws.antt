@@ -1,11 +1,11 @@
 -- Laws of the words that are the book: their front.
 use mathlib.Core.Path.{◌≡◌, sym, ap, ◌∙◌}
 use mathlib.Core.List.{List, ◌++◌}
-use Prim.Native.Nat.{ℕ, ◌+◌, ◌≤◌, ◌<◌}
+use Prim.Native.Nat.{ℕ, ◌<◌}
 use native.Mathlib.Omega.{arith}
-use native.Mathlib.Decide.{dec_lt, ℕ_discrete}
-use lib.ListN.{length, take, drop, get_or, set, replicate, length-replicate, get_or-replicate, drop_of_length-le}
-use lib.Seq.{length_front, length-take-le, take_all, take_at, drop_at, get_or-set_same, get_or-set_other, ext_get_or}
+use native.Mathlib.Decide.{dec_lt}
+use lib.ListN.{length, take, drop, drop_of_length-le}
+use lib.Seq.{length_front, length-take-le, take_all, take_at, drop_at}
 use Rattle.rules.specs.Requests.{Request}
 use Rattle.rules.specs.Numbers.{answer}
 use Rattle.book.specs.Slice.{words}
