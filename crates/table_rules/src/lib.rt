@@ -1,24 +1,17 @@
 // The audit's rules 1 to 8, over the tables, each of one number: a task, a role or a subject.
 #![tactic(auto)]
 
-ghost use Rattle.std.specs.Prelude.{◌≡◌, not, ◌<◌};
+ghost use Rattle.std.specs.Prelude.{◌≡◌, Bool, not, ℕ, ◌<◌};
 ghost use Rattle.sets.specs.Mask.{meet};
-ghost use Rattle.rules.specs.Book.{table_count};
+ghost use Rattle.rules.specs.Book.{Book, table_count};
 ghost use Rattle.rules.specs.Trade.{reach};
 ghost use Rattle.rules.specs.Audit.{of_four, not_own, symmetric, owner_free};
 ghost use Rattle.book.specs.Slice.{tables};
 ghost use Rattle.owners.specs.Owners.{start_of};
-ghost use Rattle.table_rules.specs.Rows.{row_kept};
-
-// What is asked of one task in each of the four pair tables: rule 1, and rule 2.
-#[derive(Clone, Copy)]
-pub enum RowRule {
-    NotOwn,
-    Symmetric,
-}
+ghost use Rattle.table_rules.specs.Rows.{Asks};
 
 // Rule 2 in one table: u is in the row of each task of its own row.
-fn is_two_sided(book: &book::Words, table: u64, u: u64) -> bool
+pub fn is_two_sided(book: &book::Words, table: u64, u: u64) -> bool
     requires { (table < table_count) × (u < 64) }
     ensures { result ≡ symmetric ((tables book.now).row table) u }
 {
@@ -30,25 +23,12 @@ fn is_two_sided(book: &book::Words, table: u64, u: u64) -> bool
     true
 }
 
-// Rule 1 or 2 in one table.
-fn is_kept_in(book: &book::Words, rule: RowRule, table: u64, t: u64) -> bool
-    requires { (table < table_count) × (t < 64) }
-    ensures { result ≡ row_kept rule ((tables book.now).row table) t }
+// Rules 1 and 2: whether what is asked of a task in a table holds in each of the four pair tables.
+pub fn is_kept_in_four<F: Fn(u64) -> bool>(is_kept_in: F) -> bool
+    requires { (table : ℕ) → table < table_count → F.pre is_kept_in table }
+    ensures { (d : Book) (rule : (ℕ → ℕ) → ℕ → Bool) (t : ℕ) → Asks (F.post is_kept_in) d rule t → result ≡ of_four rule d t }
 {
-    match rule {
-        RowRule::NotOwn => !book::is_in_row(book, table, t, t),
-        RowRule::Symmetric => is_two_sided(book, table, t),
-    }
-}
-
-// Rule 1 or 2 in all four pair tables.
-pub fn is_kept_in_four(book: &book::Words, rule: RowRule, t: u64) -> bool
-    requires { t < 64 }
-    ensures { result ≡ of_four (row_kept rule) (tables book.now) t }
-{
-    is_kept_in(book, rule, book::SME, t)
-        & (is_kept_in(book, rule, book::DME, t)
-            & (is_kept_in(book, rule, book::RB, t) & is_kept_in(book, rule, book::SB, t)))
+    is_kept_in(book::SME) & (is_kept_in(book::DME) & (is_kept_in(book::RB) & is_kept_in(book::SB)))
 }
 
 // Rules 3, 4 and 5: t's row has none of the others.
