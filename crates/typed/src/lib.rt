@@ -17,7 +17,7 @@ ghost use Rattle.typed.specs.Words.{part};
 ghost use Rattle.typed.specs.Grammar.{sort_for, asked, ends, help_at, third_argument, second_argument, first_argument, by_number, request_at, show_at};
 ghost use Rattle.typed.specs.Grammar.{is_taken, label_at, named_at, name_at, begun_by, line_of};
 
-pub use arguments::{Fault, Reason, Takes, wanted};
+pub use arguments::{Reason, wanted};
 use decimal::Unread;
 use labels::Sort;
 pub use words::next;
