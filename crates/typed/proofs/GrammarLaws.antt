@@ -121,7 +121,8 @@ module _ (line : List ℕ) (whole : Bool) (names : List ℕ) where
 
   -- A request that begins with a word: of no kind, or of a kind.
   module _ (trial : Bool) (start end : ℕ) (word : List ℕ) where
-    pub kind_number : (0 < kind_of (row_for word) → ⊥) → by_number line whole names trial start end (number_of word) ≡ by_kind line whole names trial start end word
+    pub kind_number : (0 < kind_of (row_for word) → ⊥)
+        → by_number line whole names trial start end (number_of word) ≡ by_kind line whole names trial start end word
     unfolding by_kind
     kind_number h = let z : kind_of (row_for word) ≡ 0 = omega arith in rw (by_kind, eq-eqb _ 0 z)
 
