@@ -43,6 +43,7 @@ const THINGS: u64 = 64;
 // The longest name.
 pub const WIDTH: usize = 24;
 
+// Stays: fixed memory: the names are one lent array of bytes, a row for each thing, and no rows with a length beside each.
 // The bytes of the table, which starts as SIZE blanks.
 pub const SIZE: usize = 6144;
 

@@ -7,6 +7,7 @@ ghost use Rattle.replay.specs.Obeyed.{Front, reply_to, audit_of, Changed, Obeyed
 use answers::Reply;
 use stream::Command;
 
+// Stays: nothing is one of five things that may come of a line; an Option of the other four would have one more match and the same arms.
 // What came of a line.
 #[derive(Clone, Copy)]
 pub enum Outcome {

@@ -2,6 +2,7 @@
 ghost use Rattle.std.specs.Prelude.{◌≡◌, ◌≤◌, length};
 ghost use Rattle.typed.specs.Words.{is_blank, belongs, past, span_from};
 
+// Stays: a word is told by its places and not as a slice, since a fault names where it stands, and what follows is read from its end.
 // A word of a line, from `start` to before `end`; empty where the line has no more.
 // It is cut where it, or what comes behind it, lies past what is held of the line.
 #[derive(Clone, Copy)]
