@@ -2,7 +2,7 @@
 #![tactic(auto)]
 
 ghost use Rattle.std.specs.Prelude.{◌≡◌, ◌<◌};
-ghost use Rattle.sets.specs.Search.{lowest};
+ghost use Rattle.sets.specs.Members.{IsLowest};
 ghost use Rattle.book.specs.Slice.{tables, WellFormed};
 ghost use Rattle.owners.specs.Owners.{start_of, clashes_below, found_clash};
 ghost use Rattle.owners.specs.Rising.{above, Raised, owners_of, starters, starts_in_both};
@@ -14,16 +14,9 @@ pub enum Owner {
     Subject,
 }
 
-// What a search for a clash gives: an owner, with all tasks that it owns and that clash.
-#[derive(Drop)]
-pub enum Clash {
-    Owned(u64, u64),
-    Nothing,
-}
-
 // The roles that an owner starts with: a role with itself, a subject with its assigned roles.
 pub fn start_of(book: &book::Words, owner: Owner, o: u64) -> u64
-    requires { (o < 64) }
+    requires { o < 64 }
     ensures { result ≡ start_of (tables book.now) owner o }
 {
     match owner {
@@ -38,10 +31,8 @@ fn raised(book: &book::Words, set: u64) -> u64
     ensures { Raised (tables book.now) set result }
 {
     let mut all = set;
-    let mut left = book::head(book, book::ROLES) & !set;
-    while left != 0 {
-        all = all | search::meeting_row(book, book::JUNIORS, all, sets::lowest(left));
-        left = sets::rest(left);
+    for r in sets::each(book::head(book, book::ROLES) & !set) {
+        all |= search::meeting_row(book, book::JUNIORS, all, r);
     }
     all
 }
@@ -81,30 +72,27 @@ fn starters(book: &book::Words, owner: Owner, set: u64) -> u64
     }
 }
 
-// The lowest owner that starts with a role of each set; 64 where there is none.
-pub fn lowest_starter(book: &book::Words, owner: Owner, xs: u64, ys: u64) -> u64
-    ensures { result ≡ lowest (starts_in_both (tables book.now) owner xs ys) }
+// The lowest owner that starts with a role of each set.
+pub fn lowest_starter(book: &book::Words, owner: Owner, xs: u64, ys: u64) -> Option<u64>
+    ensures { IsLowest (starts_in_both (tables book.now) owner xs ys) result }
 {
-    sets::lowest(starters(book, owner, xs) & starters(book, owner, ys))
+    sets::first(starters(book, owner, xs) & starters(book, owner, ys))
 }
 
 // Among the owners of role b: the lowest that owns a task SME to one it would gain, and all tasks it owns that are.
-pub fn first_clash(book: &book::Words, owner: Owner, b: u64, gain: u64) -> Clash
+pub fn first_clash(book: &book::Words, owner: Owner, b: u64, gain: u64) -> Option<(u64, u64)>
     requires { WellFormed book.now × (b < 64) }
     ensures { result ≡ found_clash (clashes_below (tables book.now) owner b gain) }
 {
     let all_clashing = search::meeting(book, book::SME, book::head(book, book::TASKS), gain);
     if all_clashing == 0 {
-        return Clash::Nothing;
+        return None;
     }
     let holders = owners_of(book, all_clashing);
     if holders == 0 {
-        return Clash::Nothing;
+        return None;
     }
-    let o = lowest_starter(book, owner, above(book, sets::alone(b)), holders);
-    if o >= 64 {
-        return Clash::Nothing;
-    }
+    let o = lowest_starter(book, owner, above(book, sets::alone(b)), holders)?;
     let owned = trade::owned_tasks(book, start_of(book, owner, o));
-    Clash::Owned(o, owned & all_clashing)
+    Some((o, owned & all_clashing))
 }
