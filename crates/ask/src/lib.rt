@@ -8,6 +8,8 @@ ghost use Rattle.rules.specs.Requests.{row_of, fits, is_open};
 ghost use Rattle.book.specs.Slice.{tables};
 ghost use Rattle.ask.specs.Arguments.{need_of, asked, fault_of};
 
+use book::Table;
+
 // What an argument must be.
 #[derive(Clone, Copy)]
 pub enum Argument {
@@ -78,7 +80,7 @@ fn is_open_order(book: &book::Words, v: u64) -> bool
     ensures { result ≡ (ltb v 64 && is_open (tables book.now) v) }
 {
     if v < 64 {
-        book::row(book, book::ORDERS, v) != 0
+        book::row(book, Table::Orders, v) != 0
     } else {
         false
     }

@@ -7,6 +7,8 @@ ghost use Rattle.rules.specs.Book.{table_count, orders, names, bad_active, bad_c
 ghost use Rattle.book.specs.Slice.{tables};
 ghost use Rattle.scan.specs.Blocks.{has_role, mask_bad, active_bad, row_bad, cell_bad, joined_cells, IsFirstBad};
 
+use book::Table;
+
 // Whether v is 0, or one more than a number of the set.
 fn is_in(set: u64, v: u64) -> bool
     ensures { result ≡ names set v }
@@ -51,8 +53,8 @@ fn is_bad_cell(in_order: bool, roles: u64, subjects: u64, v: u64) -> bool
 }
 
 // Whether row r of a table of masks is bad: of an undefined owner any but 0 is, of a defined one what names something that is not known.
-fn is_bad_mask_at(book: &book::Words, table: u64, owners: u64, known: u64, r: u64) -> bool
-    requires { (table < table_count) × (r < 64) }
+fn is_bad_mask_at(book: &book::Words, table: Table, owners: u64, known: u64, r: u64) -> bool
+    requires { (r < 64) }
     ensures { result ≡ mask_bad (tables book.now) table owners known r }
 {
     let v = book::row(book, table, r);
@@ -64,8 +66,7 @@ fn is_bad_mask_at(book: &book::Words, table: u64, owners: u64, known: u64, r: u6
 }
 
 // The lowest bad row of a table of masks, if it has one.
-fn bad_mask_in(book: &book::Words, table: u64, owners: u64, known: u64) -> Option<u64>
-    requires { (table < table_count) }
+fn bad_mask_in(book: &book::Words, table: Table, owners: u64, known: u64) -> Option<u64>
     ensures { IsLowest (mask_bad (tables book.now) table owners known) result }
 {
     (0..64).find(|r| is_bad_mask_at(book, table, owners, known, *r))
@@ -76,7 +77,7 @@ fn is_bad_active_at(book: &book::Words, subjects: u64, roles: u64, r: u64) -> bo
     requires { (r < 64) }
     ensures { result ≡ active_bad (tables book.now) subjects roles r }
 {
-    let v = book::row(book, book::ACTIVE, r);
+    let v = book::row(book, Table::Active, r);
     v != 0 && is_bad_active(sets::has(subjects, r), roles, v)
 }
 
@@ -88,19 +89,18 @@ fn bad_active_in(book: &book::Words, subjects: u64, roles: u64) -> Option<u64>
 }
 
 // The lowest bad row of a table, if it has one.
-fn bad_row_in(book: &book::Words, table: u64) -> Option<u64>
-    requires { (table < table_count) }
+fn bad_row_in(book: &book::Words, table: Table) -> Option<u64>
     ensures { IsLowest (row_bad (tables book.now) table) result }
 {
     let tasks = book::head(book, book::TASKS);
     let roles = book::head(book, book::ROLES);
     let subjects = book::head(book, book::SUBJECTS);
     match table {
-        book::SME..=book::SB => bad_mask_in(book, table, tasks, tasks),
-        book::JUNIORS => bad_mask_in(book, table, roles, roles),
-        book::TASKS_OF => bad_mask_in(book, table, roles, tasks),
-        book::ROLES_OF => bad_mask_in(book, table, subjects, roles),
-        book::ACTIVE => bad_active_in(book, subjects, roles),
+        Table::Sme..=Table::Sb => bad_mask_in(book, table, tasks, tasks),
+        Table::Juniors => bad_mask_in(book, table, roles, roles),
+        Table::TasksOf => bad_mask_in(book, table, roles, tasks),
+        Table::RolesOf => bad_mask_in(book, table, subjects, roles),
+        Table::Active => bad_active_in(book, subjects, roles),
         _ => bad_mask_in(book, table, !0, tasks),
     }
 }
@@ -145,7 +145,7 @@ fn bad_cell_in(book: &book::Words, order: u64) -> Option<u64>
     requires { (order < 64) }
     ensures { IsLowest (cell_bad (tables book.now) order) result }
 {
-    let tasks = book::row(book, book::ORDERS, order);
+    let tasks = book::row(book, Table::Orders, order);
     if tasks == 0 && joined_cells(book, order) == 0 {
         return None;
     }
