@@ -51,6 +51,19 @@ pub enum Table {
     Orders,
 }
 
+// All nine in that order: table k at place k.
+pub const TABLES: [Table; 9] = [
+    Table::Sme,
+    Table::Dme,
+    Table::Rb,
+    Table::Sb,
+    Table::Juniors,
+    Table::TasksOf,
+    Table::RolesOf,
+    Table::Active,
+    Table::Orders,
+];
+
 // Where row r of a table stands.
 pub fn row_at(table: Table, r: u64) -> u64
     requires { (r < 64) }

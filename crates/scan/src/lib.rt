@@ -3,7 +3,8 @@
 
 ghost use Rattle.std.specs.Prelude.{◌≡◌, ◌<◌};
 ghost use Rattle.sets.specs.Members.{IsLowest};
-ghost use Rattle.rules.specs.Book.{table_count, orders, names, bad_active, bad_cell};
+ghost use Rattle.rules.specs.Book.{orders, names, bad_active, bad_cell};
+ghost use Rattle.book.specs.Tables.{number};
 ghost use Rattle.book.specs.Slice.{tables};
 ghost use Rattle.scan.specs.Blocks.{has_role, mask_bad, active_bad, row_bad, cell_bad, joined_cells, IsFirstBad};
 
@@ -54,8 +55,8 @@ fn is_bad_cell(in_order: bool, roles: u64, subjects: u64, v: u64) -> bool
 
 // Whether row r of a table of masks is bad: of an undefined owner any but 0 is, of a defined one what names something that is not known.
 fn is_bad_mask_at(book: &book::Words, table: Table, owners: u64, known: u64, r: u64) -> bool
-    requires { (r < 64) }
-    ensures { result ≡ mask_bad (tables book.now) table owners known r }
+    requires { r < 64 }
+    ensures { result ≡ mask_bad (tables book.now) (number table) owners known r }
 {
     let v = book::row(book, table, r);
     if sets::has(owners, r) {
@@ -67,7 +68,7 @@ fn is_bad_mask_at(book: &book::Words, table: Table, owners: u64, known: u64, r: 
 
 // The lowest bad row of a table of masks, if it has one.
 fn bad_mask_in(book: &book::Words, table: Table, owners: u64, known: u64) -> Option<u64>
-    ensures { IsLowest (mask_bad (tables book.now) table owners known) result }
+    ensures { IsLowest (mask_bad (tables book.now) (number table) owners known) result }
 {
     (0..64).find(|r| is_bad_mask_at(book, table, owners, known, *r))
 }
@@ -90,18 +91,18 @@ fn bad_active_in(book: &book::Words, subjects: u64, roles: u64) -> Option<u64>
 
 // The lowest bad row of a table, if it has one.
 fn bad_row_in(book: &book::Words, table: Table) -> Option<u64>
-    ensures { IsLowest (row_bad (tables book.now) table) result }
+    ensures { IsLowest (row_bad (tables book.now) (number table)) result }
 {
     let tasks = book::head(book, book::TASKS);
     let roles = book::head(book, book::ROLES);
     let subjects = book::head(book, book::SUBJECTS);
     match table {
-        Table::Sme..=Table::Sb => bad_mask_in(book, table, tasks, tasks),
+        Table::Sme | Table::Dme | Table::Rb | Table::Sb => bad_mask_in(book, table, tasks, tasks),
         Table::Juniors => bad_mask_in(book, table, roles, roles),
         Table::TasksOf => bad_mask_in(book, table, roles, tasks),
         Table::RolesOf => bad_mask_in(book, table, subjects, roles),
         Table::Active => bad_active_in(book, subjects, roles),
-        _ => bad_mask_in(book, table, !0, tasks),
+        Table::Orders => bad_mask_in(book, table, !0, tasks),
     }
 }
 
@@ -159,7 +160,7 @@ pub fn first_bad(book: &book::Words) -> Option<u64>
     if book::head(book, 3) != 0 {
         return Some(3);
     }
-    for table in 0..9 {
+    for table in book::TABLES {
         if let Some(r) = bad_row_in(book, table) {
             return Some(book::row_at(table, r));
         }

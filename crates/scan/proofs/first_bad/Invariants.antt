@@ -1,18 +1,13 @@
--- Block by block: no word before the block is bad, so the lowest bad word of the block is the lowest of the book.
-use Prim.Native.Nat.{◌+◌, ◌-◌, ◌*◌, ◌≤◌}
-use Rattle.rules.specs.Book.{table_count, table_at, cells_at, bad}
+use Rattle.std.proofs.Common.{◌≡◌, ◌<◌, ℕ, ◌+◌, ◌-◌, ◌*◌, ◌≤◌, length}
+use Rattle.sets.specs.Members.{IsLowest}
+use Rattle.rules.specs.Book.{orders, names, bad_active, bad_cell}
+use Rattle.book.specs.Tables.{number}
 use Rattle.book.specs.Slice.{tables}
-use Rattle.scan.proofs.BlockLaws.{NoneBelow}
+use Rattle.scan.specs.Blocks.{has_role, mask_bad, active_bad, row_bad, cell_bad, joined_cells, IsFirstBad}
 use Rattle.scan.proofs.first_bad.Given as goal
 
 abbrev pub invariant-loop-table : goal.invariant-loop-table
-invariant-loop-table l = (l.table ≤ table_count) × NoneBelow (bad (tables l.book)) (table_at l.table)
-
-abbrev pub decreases-loop-table : goal.decreases-loop-table
-decreases-loop-table l = table_count - l.table
+invariant-loop-table l = ?
 
 abbrev pub invariant-loop-order : goal.invariant-loop-order
-invariant-loop-order l = (l.order ≤ 64) × NoneBelow (bad (tables l.book)) (cells_at + 64 * l.order)
-
-abbrev pub decreases-loop-order : goal.decreases-loop-order
-decreases-loop-order l = 64 - l.order
+invariant-loop-order l = ?
