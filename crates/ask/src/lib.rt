@@ -1,7 +1,7 @@
 // The arguments of a request: the one fixed table of what each must be, and the first argument at fault.
 #![tactic(auto)]
 
-ghost use Rattle.std.specs.Prelude.{◌≡◌, ◌&&◌, not, ◌<◌, ltb, eqb};
+ghost use Rattle.std.specs.Prelude.{◌≡◌, ◌&&◌, not, ◌<◌, ltb, eqb, MatchOption};
 ghost use Rattle.sets.specs.Mask.{bit, within};
 ghost use Rattle.rules.specs.Book.{head_words, tasks};
 ghost use Rattle.rules.specs.Requests.{row_of, fits, is_open};
@@ -11,7 +11,7 @@ ghost use Rattle.ask.specs.Arguments.{need_of, asked, fault_of};
 use book::Table;
 
 // What an argument must be.
-#[derive(Clone, Copy)]
+#[derive(Clone, Copy, PartialEq, Eq, Debug)]
 pub enum Argument {
     Unused,
     InRange,
@@ -23,15 +23,18 @@ pub enum Argument {
 }
 
 // What a, b and c must be.
-#[derive(Clone, Copy)]
+#[derive(Clone, Copy, PartialEq, Eq, Debug)]
 pub struct Row(pub Argument, pub Argument, pub Argument);
+
+// What is no kind asks for nothing.
+const NO_KIND: Row = Row(Argument::Unused, Argument::Unused, Argument::Unused);
 
 // Row 0, and one for each kind.
 const ROWS: usize = 22;
 
 // By kind: the one fixed table of twenty-one rows, after row 0, which is no kind.
 const TABLE: [Row; ROWS] = [
-    Row(Argument::Unused, Argument::Unused, Argument::Unused), // no kind
+    NO_KIND,
     Row(Argument::InRange, Argument::Unused, Argument::Unused), // 1
     Row(Argument::InRange, Argument::Unused, Argument::Unused), // 2
     Row(Argument::InRange, Argument::Unused, Argument::Unused), // 3
@@ -59,8 +62,10 @@ const TABLE: [Row; ROWS] = [
 fn row_of(kind: u64) -> Row
     ensures { result ≡ asked (row_of kind) }
 {
-    let i = kind as usize;
-    if i < ROWS { TABLE[i] } else { TABLE[0] }
+    match TABLE.get(kind as usize) {
+        Some(row) => *row,
+        None => NO_KIND,
+    }
 }
 
 // Whether v is a defined task, role or subject, by the word of the head.
@@ -68,29 +73,21 @@ fn is_defined(book: &book::Words, things: u64, v: u64) -> bool
     requires { (things < head_words) }
     ensures { result ≡ (ltb v 64 && bit ((tables book.now).head things) v) }
 {
-    if v < 64 {
-        sets::has(book::head(book, things), v)
-    } else {
-        false
-    }
+    v < 64 && sets::has(book::head(book, things), v)
 }
 
 // Whether v is an open order.
 fn is_open_order(book: &book::Words, v: u64) -> bool
     ensures { result ≡ (ltb v 64 && is_open (tables book.now) v) }
 {
-    if v < 64 {
-        book::row(book, Table::Orders, v) != 0
-    } else {
-        false
-    }
+    v < 64 && book::row(book, Table::Orders, v) != 0
 }
 
 // Whether v is a nonempty mask of defined tasks.
 fn is_task_mask(book: &book::Words, v: u64) -> bool
     ensures { result ≡ (not (eqb v 0) && within v (tasks (tables book.now))) }
 {
-    (v != 0) & sets::inside(v, book::head(book, book::TASKS))
+    v != 0 && sets::inside(v, book::head(book, book::TASKS))
 }
 
 // Whether v is what it must be.
@@ -108,22 +105,20 @@ fn is_fit(book: &book::Words, argument: Argument, v: u64) -> bool
     }
 }
 
-// The first argument at fault, 1, 2 or 3; 0 where none is.
-pub fn argument_fault(book: &book::Words, kind: u64, a: u64, b: u64, c: u64) -> u64
-    ensures { result ≡ fault_of (tables book.now) (row_of kind) a b c }
+// The place of the first argument at fault, 1, 2 or 3, where there is one.
+pub fn argument_fault(book: &book::Words, kind: u64, a: u64, b: u64, c: u64) -> Option<u64>
+    ensures { MatchOption result (fault_of (tables book.now) (row_of kind) a b c ≡ 0)
+        (λ place. (0 < place) × (fault_of (tables book.now) (row_of kind) a b c ≡ place)) }
 {
-    let row = row_of(kind);
-    let first = row.0;
-    let second = row.1;
-    let third = row.2;
+    let Row(first, second, third) = row_of(kind);
     if !is_fit(book, first, a) {
-        return 1;
+        return Some(1);
     }
     if !is_fit(book, second, b) {
-        return 2;
+        return Some(2);
     }
     if !is_fit(book, third, c) {
-        return 3;
+        return Some(3);
     }
-    0
+    None
 }

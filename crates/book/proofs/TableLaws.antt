@@ -1,7 +1,10 @@
 -- A table of the code is one of the nine.
-use Prim.Native.Nat.{◌<◌}
+use mathlib.Core.Path.{◌≡◌, refl}
+use Prim.Native.Nat.{ℕ, zero, suc, ◌<◌}
 use native.Mathlib.Omega.{arith}
 use Rattle.rules.specs.Book.{table_count}
+use Rattle.std.specs.Prelude.{slice_index_or}
+use Rattle.book.specs.declared.TheConstants.{TABLES}
 use Rattle.book.specs.declared.Table.{Table}
 use Rattle.book.specs.declared.Table.TheVariants.{Sme, Dme, Rb, Sb, Juniors, TasksOf, RolesOf, Active, Orders}
 use Rattle.book.specs.Tables.{number}
@@ -16,3 +19,16 @@ number_lt TasksOf = omega arith
 number_lt RolesOf = omega arith
 number_lt Active = omega arith
 number_lt Orders = omega arith
+
+-- All nine stand in their order.
+pub table_at_place : (k : ℕ) → k < table_count → number (slice_index_or TABLES k Sme) ≡ k
+table_at_place zero h = refl
+table_at_place (suc zero) h = refl
+table_at_place (suc (suc zero)) h = refl
+table_at_place (suc (suc (suc zero))) h = refl
+table_at_place (suc (suc (suc (suc zero)))) h = refl
+table_at_place (suc (suc (suc (suc (suc zero))))) h = refl
+table_at_place (suc (suc (suc (suc (suc (suc zero)))))) h = refl
+table_at_place (suc (suc (suc (suc (suc (suc (suc zero))))))) h = refl
+table_at_place (suc (suc (suc (suc (suc (suc (suc (suc zero)))))))) h = refl
+table_at_place (suc (suc (suc (suc (suc (suc (suc (suc (suc k))))))))) h = absurd (omega arith)

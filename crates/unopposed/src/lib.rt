@@ -7,7 +7,7 @@ ghost use Rattle.rules.specs.Book.{table_count};
 ghost use Rattle.rules.specs.Requests.{define, activate, take_back};
 ghost use Rattle.deeds.specs.Outcome.{Settled};
 
-use answers::Answer;
+use answers::{Answer, Refusal};
 
 // Kinds 1, 2, 3: number a joins a mask of the head. 5 where it is defined already.
 pub fn define(book: &mut book::Words, word: u64, a: u64) -> Answer
@@ -16,10 +16,10 @@ pub fn define(book: &mut book::Words, word: u64, a: u64) -> Answer
 {
     let defined = book::head(book, word);
     if sets::has(defined, a) {
-        return Answer::AlreadySet;
+        return Err(Refusal::AlreadySet);
     }
     book::set_head(book, word, sets::add(defined, a));
-    Answer::Accepted
+    Ok(())
 }
 
 // Kind 11: role a is the active role of subject b. 8 where b doesn't own it.
@@ -28,10 +28,10 @@ pub fn activate(book: &mut book::Words, a: u64, b: u64) -> Answer
     ensures { Settled book.old book.new activate a b 0 result }
 {
     if !trade::owns_role(book, b, a) {
-        return Answer::NotOwned;
+        return Err(Refusal::NotOwned);
     }
     book::set_row(book, book::ACTIVE, b, a + 1);
-    Answer::Accepted
+    Ok(())
 }
 
 // Kinds 15, 16, 17: number a leaves row b of a table. 6 where it isn't there.
@@ -40,8 +40,8 @@ pub fn take_back(book: &mut book::Words, table: u64, a: u64, b: u64) -> Answer
     ensures { Settled book.old book.new (take_back table) a b 0 result }
 {
     if !book::is_in_row(book, table, b, a) {
-        return Answer::NotThere;
+        return Err(Refusal::NotThere);
     }
     book::take_from_row(book, table, b, a);
-    Answer::Accepted
+    Ok(())
 }

@@ -1,5 +1,5 @@
 -- Refused where the role is not owned; else the active word is stored.
-use mathlib.Core.Path.{refl, sym, ap, ◌∙◌}
+use mathlib.Core.Path.{sym, ap, ◌∙◌}
 use mathlib.Core.Bool.{not}
 use Prim.Native.Nat.{ℕ}
 use native.Mathlib.Omega.{arith}
@@ -21,7 +21,7 @@ returns-then-not-owns_role c =
     let d = tables s.book.now in
     let full : Full s.book.now = omega arith in
     settled_kept
-    (refused_once (not (owns_role d (subject d s.b) s.a)) 8 (ap not (sym c.owns_role.ensures ∙ c.if-not-owns_role.true))) refl full
+    (refused_once (not (owns_role d (subject d s.b) s.a)) 8 (ap not (sym c.owns_role.ensures ∙ c.if-not-owns_role.true))) full
 
 pub returns : goal.returns
 unfolding decide state_refusal conflicts first_of change
@@ -32,5 +32,5 @@ returns c =
     settled_changed
     (not_refused (not (owns_role d (subject d s.b) s.a)) 8
     (ap not (sym c.owns_role.ensures ∙ c.if-not-owns_role.false)))
-    refl stored.0
+    stored.0
     (stored.1 ∙ ap (λ (v : ℕ). with_row active s.b v d) (add-one s.a))

@@ -1,5 +1,5 @@
 -- Refused where the bit stands; else the mask is stored with it.
-use mathlib.Core.Path.{refl, sym, ap, ◌∙◌}
+use mathlib.Core.Path.{sym, ap, ◌∙◌}
 use Prim.Native.Nat.{ℕ}
 use native.Mathlib.Omega.{arith}
 use Rattle.sets.specs.Mask.{bit, with}
@@ -17,7 +17,7 @@ returns-then-has c =
     let s = c.args in
     let full : Full s.book.now = omega arith in
     let stands = ap (λ (m : ℕ). bit m s.a) (sym c.head-defined.ensures) ∙ sym c.has.ensures ∙ c.if-has.true in
-    settled_kept (refused_once (bit ((tables s.book.now).head s.word) s.a) 5 stands) refl full
+    settled_kept (refused_once (bit ((tables s.book.now).head s.word) s.a) 5 stands) full
 
 pub returns : goal.returns
 unfolding decide state_refusal conflicts first_of change
@@ -28,5 +28,5 @@ returns c =
     let stands-not = ap (λ (m : ℕ). bit m s.a) (sym mask) ∙ sym
     c.has.ensures ∙ c.if-has.false in
     let stored = c.set_head.ensures in
-    settled_changed (not_refused (bit (d.head s.word) s.a) 5 stands-not) refl stored.0
+    settled_changed (not_refused (bit (d.head s.word) s.a) 5 stands-not) stored.0
     (stored.1 ∙ ap (λ (v : ℕ). with_head s.word v d) (c.add.ensures ∙ ap (λ (m : ℕ). with m s.a) mask))

@@ -1,5 +1,5 @@
 -- Refused where the bit does not stand; else it leaves the row.
-use mathlib.Core.Path.{refl, sym, ap, ◌∙◌}
+use mathlib.Core.Path.{sym, ap, ◌∙◌}
 use mathlib.Core.Bool.{not}
 use native.Mathlib.Omega.{arith}
 use Rattle.sets.specs.Mask.{bit}
@@ -18,7 +18,7 @@ returns-then-not-is_in_row c =
     let d = tables s.book.now in
     let full : Full s.book.now = omega arith in
     settled_kept
-    (refused_once (not (bit (d.row s.table s.b) s.a)) 6 (ap not (sym c.is_in_row.ensures ∙ c.if-not-is_in_row.true))) refl full
+    (refused_once (not (bit (d.row s.table s.b) s.a)) 6 (ap not (sym c.is_in_row.ensures ∙ c.if-not-is_in_row.true))) full
 
 pub returns : goal.returns
 unfolding decide state_refusal conflicts first_of change
@@ -29,4 +29,4 @@ returns c =
     settled_changed
     (not_refused (not (bit (d.row s.table s.b) s.a)) 6
     (ap not (sym c.is_in_row.ensures ∙ c.if-not-is_in_row.false)))
-    refl stored.0 stored.1
+    stored.0 stored.1
