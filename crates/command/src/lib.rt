@@ -12,14 +12,12 @@ const ERRORS: i32 = 2;
 
 const TO_COMMAND: i32 = 3;
 
-// How a run went, where it did not go well: the digit that the command is told.
-#[derive(Clone, Copy)]
-pub enum Fault {
-    // A request was refused, where it was asked to tell that.
-    Refused = 1,
-    // Reading or writing failed.
-    Broken = 3,
-}
+// Stays: a status is a number, since `end` takes any, and programs alone call it; an enum of these two would ask more of a caller.
+// A request was refused, where it was asked to tell that.
+pub const REFUSED: u8 = 1;
+
+// Reading or writing failed.
+pub const BROKEN: u8 = 3;
 
 // The status of a program that ends since the reader of its output has closed it, as the signal of that would end it.
 pub const CLOSED: u8 = 141;
@@ -42,9 +40,9 @@ pub fn has_option(system: &impl Env, option: &[u8]) -> bool {
         .any(|same| same)
 }
 
-// Tells the command what went wrong.
-pub fn end(fault: Fault) {
-    let digit = [b'0' + fault as u8];
+// Tells the command how it went: REFUSED or BROKEN.
+pub fn end(status: u8) {
+    let digit = [b'0' + status % 10];
     io::write_all(TO_COMMAND, &digit);
 }
 

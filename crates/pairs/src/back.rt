@@ -7,7 +7,7 @@ ghost use Rattle.answers.specs.Answers.{said};
 ghost use Rattle.deeds.specs.Outcome.{decide, Settled};
 
 use crate::open_refusal;
-use answers::Answer;
+use answers::{Answer, Refusal};
 
 // The answer: 6 where bit b of row a isn't set, whatever row b has; then 7 while an order is open.
 fn judge_back(book: &book::Words, table: u64, a: u64, b: u64) -> Answer
@@ -15,7 +15,7 @@ fn judge_back(book: &book::Words, table: u64, a: u64, b: u64) -> Answer
     ensures { said result ≡ decide (tables book.now) (unrelate table) a b 0 }
 {
     if !book::is_in_row(book, table, a, b) {
-        return Answer::NotThere;
+        return Err(Refusal::NotThere);
     }
     open_refusal(book)
 }
@@ -25,10 +25,8 @@ pub fn unrelate(book: &mut book::Words, table: u64, a: u64, b: u64) -> Answer
     requires { (table < table_count) × (a < 64) × (b < 64) }
     ensures { Settled book.old book.new (unrelate table) a b 0 result }
 {
-    let answer = judge_back(book, table, a, b);
-    if answers::is_accepted(answer) {
-        book::take_from_row(book, table, b, a);
-        book::take_from_row(book, table, a, b);
-    }
-    answer
+    judge_back(book, table, a, b)?;
+    book::take_from_row(book, table, b, a);
+    book::take_from_row(book, table, a, b);
+    Ok(())
 }

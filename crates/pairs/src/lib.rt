@@ -12,18 +12,17 @@ ghost use Rattle.book.specs.Slice.{tables, WellFormed};
 ghost use Rattle.answers.specs.Answers.{said};
 ghost use Rattle.deeds.specs.Outcome.{decide, Settled};
 
-use answers::Answer;
+use answers::{Answer, Refusal};
 pub use back::unrelate;
 
 // 7 while an order is open.
 fn open_refusal(book: &book::Words) -> Answer
     ensures { said result ≡ open_refusal (tables book.now) }
 {
-    let order = search::lowest_open(book);
-    if order < 64 {
-        return Answer::OrderOpen(order);
+    match search::lowest_open(book) {
+        Some(order) => Err(Refusal::OrderOpen(order)),
+        None => Ok(()),
     }
-    Answer::Accepted
 }
 
 // 5 where the pair is set already, 7 while an order is open.
@@ -32,7 +31,7 @@ fn pair_refusal(book: &book::Words, table: u64, a: u64, b: u64) -> Answer
     ensures { said result ≡ state_refusal (tables book.now) (relate table) a b 0 }
 {
     if book::is_in_row(book, table, a, b) {
-        return Answer::AlreadySet;
+        return Err(Refusal::AlreadySet);
     }
     open_refusal(book)
 }
@@ -42,12 +41,13 @@ fn pair_conflict(book: &book::Words, table: u64, a: u64, b: u64) -> Answer
     requires { WellFormed book.now × (a < 64) × (b < 64) }
     ensures { said result ≡ first_of (pair_conflicts table) (tables book.now) a b }
 {
+    // Stays: a table is its number, since that is where its rows lie among the words; an enum would be turned into it at each use.
     match table {
         book::SME => exclusions::sme_conflict(book, a, b),
         book::DME => exclusions::dme_conflict(book, a, b),
         book::RB => bindings::rb_conflict(book, a, b),
         book::SB => bindings::sb_conflict(book, a, b),
-        _ => Answer::UnknownKind,
+        _ => Err(Refusal::UnknownKind),
     }
 }
 
@@ -56,10 +56,7 @@ fn judge_pair(book: &book::Words, table: u64, a: u64, b: u64) -> Answer
     requires { WellFormed book.now × (table < table_count) × (a < 64) × (b < 64) }
     ensures { said result ≡ decide (tables book.now) (relate table) a b 0 }
 {
-    let refusal = pair_refusal(book, table, a, b);
-    if !answers::is_accepted(refusal) {
-        return refusal;
-    }
+    pair_refusal(book, table, a, b)?;
     pair_conflict(book, table, a, b)
 }
 
@@ -68,10 +65,8 @@ pub fn relate(book: &mut book::Words, table: u64, a: u64, b: u64) -> Answer
     requires { WellFormed book.old × (table < table_count) × (a < 64) × (b < 64) }
     ensures { Settled book.old book.new (relate table) a b 0 result }
 {
-    let answer = judge_pair(book, table, a, b);
-    if answers::is_accepted(answer) {
-        book::add_to_row(book, table, a, b);
-        book::add_to_row(book, table, b, a);
-    }
-    answer
+    judge_pair(book, table, a, b)?;
+    book::add_to_row(book, table, a, b);
+    book::add_to_row(book, table, b, a);
+    Ok(())
 }

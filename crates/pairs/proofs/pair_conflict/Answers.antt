@@ -1,4 +1,5 @@
 -- The arm taken says which table it is; a table that is none of the four is refused.
+use native.Mathlib.Omega.{arith}
 use Rattle.book.specs.Slice.{tables}
 use Rattle.rules.specs.Numbers.{by_table, pair_conflicts}
 use Rattle.deeds.proofs.ConflictLaws.{unlisted_told}
@@ -24,5 +25,4 @@ pub returns-in_default : goal.returns-in_default
 unfolding pair_conflicts
 returns-in_default c =
     let s = c.args in
-    let other = c.in_default.in_default-own.rest in
-    unlisted_told _ (tables s.book.now) s.table s.a s.b (other.0.0.0.1, (other.0.0.1, (other.0.1, (other.1, tt))))
+    unlisted_told _ (tables s.book.now) s.table s.a s.b (omega arith, (omega arith, (omega arith, (omega arith, tt))))
