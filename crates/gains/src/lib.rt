@@ -10,8 +10,8 @@ ghost use Rattle.book.specs.Slice.{tables, WellFormed};
 ghost use Rattle.gains.specs.Gains.{owners_conflict};
 ghost use Rattle.answers.specs.Answers.{said};
 
-use book::Table;
 use answers::{Answer, Refusal};
+use book::Table;
 use owners::Owner;
 
 // What a role brings: all tasks that it owns.

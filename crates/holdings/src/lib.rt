@@ -8,8 +8,8 @@ ghost use Rattle.rules.specs.Numbers.{accepted, given_pair_in, given_lowest_pair
 ghost use Rattle.book.specs.Slice.{tables, WellFormed};
 ghost use Rattle.answers.specs.Answers.{said};
 
-use book::Table;
 use answers::{Answer, Refusal};
+use book::Table;
 
 // 33, between what c holds in each order and the tasks that c would get. The tasks that are SME to one of these are found once.
 fn sme_held(book: &book::Words, c: u64, hand: u64) -> Answer
