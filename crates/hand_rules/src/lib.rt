@@ -3,7 +3,7 @@
 // task in an order.
 #![tactic(auto)]
 
-ghost use Rattle.std.specs.Prelude.{◌≡◌, false, not, ℕ, ◌≤◌, ◌<◌, length};
+ghost use Rattle.std.specs.Prelude.{◌≡◌, false, not, ℕ, ◌≤◌, ◌<◌};
 ghost use Rattle.sets.specs.Search.{all};
 ghost use Rattle.rules.specs.Book.{table_count};
 ghost use Rattle.rules.specs.Audit.{pair_free, broken};
@@ -20,8 +20,8 @@ fn open_orders(book: &book::Words) -> u64
 
 // Task t is noted as held by the subject of its cell, which is given plus 1; 0 is nobody.
 fn note(held: &mut [u64; 64], s: u64, t: u64)
-    requires { (length held.old ≡ 64) × (s ≤ 64) × (t < 64) }
-    ensures { (length held.new ≡ 64) × ((k : ℕ) → words held.new k ≡ noted s t k (words held.old k)) }
+    requires { (s ≤ 64) × (t < 64) }
+    ensures { (k : ℕ) → words held.new k ≡ noted s t k (words held.old k) }
 {
     if s == 0 {
         return;
@@ -32,50 +32,41 @@ fn note(held: &mut [u64; 64], s: u64, t: u64)
 
 // Notes for each subject what it holds in the order, beside what it was noted with before.
 fn note_order(book: &book::Words, order: u64, held: &mut [u64; 64])
-    requires { WellFormed book.now × (order < 64) × (length held.old ≡ 64) }
+    requires { WellFormed book.now × (order < 64) }
     ensures { NotedIn (tables book.now) order held.old held.new }
 {
-    let mut left = book::row(book, book::ORDERS, order);
-    while left != 0 {
-        let t = sets::lowest(left);
+    for t in sets::each(book::row(book, book::ORDERS, order)) {
         note(held, book::subject_in(book::cell(book, order, t)), t);
-        left = sets::rest(left);
     }
 }
 
 // Whether what each subject is noted with holds no pair of the table. Who is undefined is noted with nothing.
 fn are_free(book: &book::Words, table: u64, held: &[u64; 64]) -> bool
-    requires { (table < table_count) × (length held.now ≡ 64) × OnlyDefined (tables book.now) held.now }
+    requires { (table < table_count) × OnlyDefined (tables book.now) held.now }
     ensures { result ≡ all 64 (λ s. pair_free ((tables book.now).row table) (words held.now s)) }
 {
-    let mut left = book::head(book, book::SUBJECTS);
-    while left != 0 {
-        if !search::is_pair_free(book, table, held[sets::lowest(left) as usize]) {
+    for s in sets::each(book::head(book, book::SUBJECTS)) {
+        if !search::is_pair_free(book, table, held[s as usize]) {
             return false;
         }
-        left = sets::rest(left);
     }
     true
 }
 
 // What each subject is noted with joins what it is noted with anywhere.
 fn gather(held: &[u64; 64], anywhere: &mut [u64; 64])
-    requires { (length held.now ≡ 64) × (length anywhere.old ≡ 64) }
     ensures { Gathered held.now anywhere.old anywhere.new }
 {
-    let mut s: usize = 0;
-    while s < 64 {
-        anywhere[s] = anywhere[s] | held[s];
-        s += 1;
+    for (s, here) in held.iter().enumerate() {
+        anywhere[s] |= *here;
     }
 }
 
 // Rule 9 for DME in one order: nobody holds both tasks of a pair in it. What each holds in it joins what they hold anywhere. An order that is
 // not open asks nothing, and nothing is held in it.
 fn is_dme_apart_in(book: &book::Words, order: u64, anywhere: &mut [u64; 64]) -> bool
-    requires { WellFormed book.now × (order < 64) × (length anywhere.old ≡ 64) }
-    ensures { (result ≡ dme_apart_in (tables book.now) order)
-        × NotedIn (tables book.now) order anywhere.old anywhere.new }
+    requires { WellFormed book.now × (order < 64) }
+    ensures { (result ≡ dme_apart_in (tables book.now) order) × NotedIn (tables book.now) order anywhere.old anywhere.new }
 {
     if book::row(book, book::ORDERS, order) == 0 {
         return true;
@@ -118,16 +109,13 @@ fn is_alike(subjects: u64, roles: u64, v: u64, own: u64, other: u64) -> bool
 
 // Rule 10 beside u, in whose cell `own` stands.
 fn is_together(book: &book::Words, order: u64, subjects: u64, roles: u64, own: u64) -> bool
-    requires { (order < 64) }
+    requires { order < 64 }
     ensures { result ≡ all 64 (same_hand (tables book.now) order subjects roles own) }
 {
-    let mut left = subjects | roles;
-    while left != 0 {
-        let v = sets::lowest(left);
+    for v in sets::each(subjects | roles) {
         if !is_alike(subjects, roles, v, own, book::cell(book, order, v)) {
             return false;
         }
-        left = sets::rest(left);
     }
     true
 }
@@ -155,12 +143,10 @@ fn is_together_with(book: &book::Words, opened: u64, subjects: u64, roles: u64, 
     requires { Opens (tables book.now) opened × (u < 64) }
     ensures { result ≡ all 64 (together_in (tables book.now) subjects roles u) }
 {
-    let mut left = opened;
-    while left != 0 {
-        if !is_together_in(book, subjects, roles, u, sets::lowest(left)) {
+    for order in sets::each(opened) {
+        if !is_together_in(book, subjects, roles, u, order) {
             return false;
         }
-        left = sets::rest(left);
     }
     true
 }
@@ -183,12 +169,10 @@ pub fn are_together(book: &book::Words) -> bool
     ensures { result ≡ not (broken (tables book.now) 10) }
 {
     let opened = open_orders(book);
-    let mut left = book::head(book, book::TASKS);
-    while left != 0 {
-        if !is_bound_together(book, opened, sets::lowest(left)) {
+    for u in sets::each(book::head(book, book::TASKS)) {
+        if !is_bound_together(book, opened, u) {
             return false;
         }
-        left = sets::rest(left);
     }
     true
 }

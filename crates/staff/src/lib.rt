@@ -9,8 +9,7 @@ ghost use Rattle.book.specs.Slice.{tables, WellFormed};
 ghost use Rattle.answers.specs.Answers.{said};
 ghost use Rattle.deeds.specs.Outcome.{decide, Settled};
 
-use answers::Answer;
-use gains::Gain;
+use answers::{Answer, Refusal};
 
 // 5 where it is assigned already.
 fn assign_refusal(book: &book::Words, table: u64, a: u64, b: u64) -> Answer
@@ -18,9 +17,9 @@ fn assign_refusal(book: &book::Words, table: u64, a: u64, b: u64) -> Answer
     ensures { said result ≡ state_refusal (tables book.now) (assign table) a b 0 }
 {
     if book::is_in_row(book, table, b, a) {
-        return Answer::AlreadySet;
+        return Err(Refusal::AlreadySet);
     }
-    Answer::Accepted
+    Ok(())
 }
 
 // What conflicts, by the table: tasks of roles, juniors, roles of subjects. A table that nothing is assigned in is refused.
@@ -29,10 +28,10 @@ fn assign_conflict(book: &book::Words, table: u64, a: u64, b: u64) -> Answer
     ensures { said result ≡ first_of (assign_conflicts table) (tables book.now) a b }
 {
     match table {
-        book::TASKS_OF => gains::owners_conflict(book, Gain::Task, a, b),
+        book::TASKS_OF => gains::task_conflict(book, a, b),
         book::JUNIORS => gains::junior_conflict(book, a, b),
         book::ROLES_OF => gains::own_conflict(book, a, b),
-        _ => Answer::UnknownKind,
+        _ => Err(Refusal::UnknownKind),
     }
 }
 
@@ -41,10 +40,7 @@ fn judge_assignment(book: &book::Words, table: u64, a: u64, b: u64) -> Answer
     requires { WellFormed book.now × (table < table_count) × (a < 64) × (b < 64) }
     ensures { said result ≡ decide (tables book.now) (assign table) a b 0 }
 {
-    let refusal = assign_refusal(book, table, a, b);
-    if !answers::is_accepted(refusal) {
-        return refusal;
-    }
+    assign_refusal(book, table, a, b)?;
     assign_conflict(book, table, a, b)
 }
 
@@ -53,9 +49,7 @@ pub fn assign(book: &mut book::Words, table: u64, a: u64, b: u64) -> Answer
     requires { WellFormed book.old × (table < table_count) × (a < 64) × (b < 64) }
     ensures { Settled book.old book.new (assign table) a b 0 result }
 {
-    let answer = judge_assignment(book, table, a, b);
-    if answers::is_accepted(answer) {
-        book::add_to_row(book, table, b, a);
-    }
-    answer
+    judge_assignment(book, table, a, b)?;
+    book::add_to_row(book, table, b, a);
+    Ok(())
 }

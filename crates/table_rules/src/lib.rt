@@ -22,12 +22,10 @@ fn is_two_sided(book: &book::Words, table: u64, u: u64) -> bool
     requires { (table < table_count) × (u < 64) }
     ensures { result ≡ symmetric ((tables book.now).row table) u }
 {
-    let mut left = book::row(book, table, u);
-    while left != 0 {
-        if !book::is_in_row(book, table, sets::lowest(left), u) {
+    for v in sets::each(book::row(book, table, u)) {
+        if !book::is_in_row(book, table, v, u) {
             return false;
         }
-        left = sets::rest(left);
     }
     true
 }
@@ -45,7 +43,7 @@ fn is_kept_in(book: &book::Words, rule: RowRule, table: u64, t: u64) -> bool
 
 // Rule 1 or 2 in all four pair tables.
 pub fn is_kept_in_four(book: &book::Words, rule: RowRule, t: u64) -> bool
-    requires { (t < 64) }
+    requires { t < 64 }
     ensures { result ≡ of_four (row_kept rule) (tables book.now) t }
 {
     is_kept_in(book, rule, book::SME, t)
@@ -63,7 +61,7 @@ pub fn is_apart(book: &book::Words, table: u64, others: u64, t: u64) -> bool
 
 // Rule 6: role r doesn't reach itself.
 pub fn is_acyclic(book: &book::Words, r: u64) -> bool
-    requires { (r < 64) }
+    requires { r < 64 }
     ensures { result ≡ not_own (reach (tables book.now)) r }
 {
     !sets::has(trade::reach(book, r), r)
@@ -71,7 +69,7 @@ pub fn is_acyclic(book: &book::Words, r: u64) -> bool
 
 // Rules 7 and 8: an owner owns no task that is SME to one of its own.
 pub fn is_owner_free(book: &book::Words, owner: owners::Owner, o: u64) -> bool
-    requires { (o < 64) }
+    requires { o < 64 }
     ensures { result ≡ owner_free (tables book.now) (start_of (tables book.now) owner) o }
 {
     let owned = trade::owned_tasks(book, owners::start_of(book, owner, o));

@@ -1,12 +1,13 @@
 -- The arm taken says which table it is; a table that is none of the three is refused.
+use native.Mathlib.Omega.{arith}
 use Rattle.book.specs.Slice.{tables}
-use Rattle.rules.specs.Numbers.{task_conflicts, by_table, assign_conflicts}
+use Rattle.rules.specs.Numbers.{by_table, assign_conflicts}
 use Rattle.deeds.proofs.ConflictLaws.{unlisted_told}
 use Rattle.staff.proofs.assign_conflict.Goals as goal
 
 pub returns-in-5 : goal.returns-in-5
-unfolding assign_conflicts by_table task_conflicts
-returns-in-5 c = rw c.in-5.is c.owners_conflict.ensures
+unfolding assign_conflicts by_table
+returns-in-5 c = rw c.in-5.is c.task_conflict.ensures
 
 pub returns-in-4 : goal.returns-in-4
 unfolding assign_conflicts by_table
@@ -20,5 +21,4 @@ pub returns-in_default : goal.returns-in_default
 unfolding assign_conflicts
 returns-in_default c =
     let s = c.args in
-    let other = c.in_default.in_default-own.rest in
-    unlisted_told _ (tables s.book.now) s.table s.a s.b (other.0.0.1, (other.0.1, (other.1, tt)))
+    unlisted_told _ (tables s.book.now) s.table s.a s.b (λ e. omega arith, (λ e. omega arith, (λ e. omega arith, tt)))
