@@ -1,5 +1,5 @@
 -- A table of the code is one of the nine.
-use mathlib.Core.Path.{◌≡◌, refl}
+use mathlib.Core.Path.{◌≡◌, refl, sym, ap, ◌∙◌}
 use Prim.Native.Nat.{ℕ, zero, suc, ◌<◌}
 use native.Mathlib.Omega.{arith}
 use Rattle.rules.specs.Book.{table_count}
@@ -32,3 +32,18 @@ table_at_place (suc (suc (suc (suc (suc (suc zero)))))) h = refl
 table_at_place (suc (suc (suc (suc (suc (suc (suc zero))))))) h = refl
 table_at_place (suc (suc (suc (suc (suc (suc (suc (suc zero)))))))) h = refl
 table_at_place (suc (suc (suc (suc (suc (suc (suc (suc (suc k))))))))) h = absurd (omega arith)
+
+at_number : (t : Table) → slice_index_or TABLES (number t) Sme ≡ t
+at_number Sme = refl
+at_number Dme = refl
+at_number Rb = refl
+at_number Sb = refl
+at_number Juniors = refl
+at_number TasksOf = refl
+at_number RolesOf = refl
+at_number Active = refl
+at_number Orders = refl
+
+-- No two of them have one number.
+pub number_one : (t u : Table) → number t ≡ number u → t ≡ u
+number_one t u e = sym (at_number t) ∙ ap (λ (k : ℕ). slice_index_or TABLES k Sme) e ∙ at_number u

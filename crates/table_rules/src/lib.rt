@@ -3,12 +3,14 @@
 
 ghost use Rattle.std.specs.Prelude.{◌≡◌, not, ◌<◌};
 ghost use Rattle.sets.specs.Mask.{meet};
-ghost use Rattle.rules.specs.Book.{table_count};
 ghost use Rattle.rules.specs.Trade.{reach};
 ghost use Rattle.rules.specs.Audit.{of_four, not_own, symmetric, owner_free};
+ghost use Rattle.book.specs.Tables.{number};
 ghost use Rattle.book.specs.Slice.{tables};
 ghost use Rattle.owners.specs.Owners.{start_of};
 ghost use Rattle.table_rules.specs.Rows.{row_kept};
+
+use book::Table;
 
 // What is asked of one task in each of the four pair tables: rule 1, and rule 2.
 #[derive(Clone, Copy)]
@@ -18,9 +20,9 @@ pub enum RowRule {
 }
 
 // Rule 2 in one table: u is in the row of each task of its own row.
-fn is_two_sided(book: &book::Words, table: u64, u: u64) -> bool
-    requires { (table < table_count) × (u < 64) }
-    ensures { result ≡ symmetric ((tables book.now).row table) u }
+fn is_two_sided(book: &book::Words, table: Table, u: u64) -> bool
+    requires { u < 64 }
+    ensures { result ≡ symmetric ((tables book.now).row (number table)) u }
 {
     for v in sets::each(book::row(book, table, u)) {
         if !book::is_in_row(book, table, v, u) {
@@ -31,9 +33,9 @@ fn is_two_sided(book: &book::Words, table: u64, u: u64) -> bool
 }
 
 // Rule 1 or 2 in one table.
-fn is_kept_in(book: &book::Words, rule: RowRule, table: u64, t: u64) -> bool
-    requires { (table < table_count) × (t < 64) }
-    ensures { result ≡ row_kept rule ((tables book.now).row table) t }
+fn is_kept_in(book: &book::Words, rule: RowRule, table: Table, t: u64) -> bool
+    requires { t < 64 }
+    ensures { result ≡ row_kept rule ((tables book.now).row (number table)) t }
 {
     match rule {
         RowRule::NotOwn => !book::is_in_row(book, table, t, t),
@@ -46,15 +48,15 @@ pub fn is_kept_in_four(book: &book::Words, rule: RowRule, t: u64) -> bool
     requires { t < 64 }
     ensures { result ≡ of_four (row_kept rule) (tables book.now) t }
 {
-    is_kept_in(book, rule, book::SME, t)
-        & (is_kept_in(book, rule, book::DME, t)
-            & (is_kept_in(book, rule, book::RB, t) & is_kept_in(book, rule, book::SB, t)))
+    is_kept_in(book, rule, Table::Sme, t)
+        & (is_kept_in(book, rule, Table::Dme, t)
+            & (is_kept_in(book, rule, Table::Rb, t) & is_kept_in(book, rule, Table::Sb, t)))
 }
 
 // Rules 3, 4 and 5: t's row has none of the others.
-pub fn is_apart(book: &book::Words, table: u64, others: u64, t: u64) -> bool
-    requires { (table < table_count) × (t < 64) }
-    ensures { result ≡ not (meet ((tables book.now).row table t) others) }
+pub fn is_apart(book: &book::Words, table: Table, others: u64, t: u64) -> bool
+    requires { t < 64 }
+    ensures { result ≡ not (meet ((tables book.now).row (number table) t) others) }
 {
     !sets::meets(book::row(book, table, t), others)
 }
@@ -73,5 +75,5 @@ pub fn is_owner_free(book: &book::Words, owner: owners::Owner, o: u64) -> bool
     ensures { result ≡ owner_free (tables book.now) (start_of (tables book.now) owner) o }
 {
     let owned = trade::owned_tasks(book, owners::start_of(book, owner, o));
-    search::is_pair_free(book, book::SME, owned)
+    search::is_pair_free(book, Table::Sme, owned)
 }

@@ -5,6 +5,7 @@ use native.Mathlib.Omega.{arith}
 use Rattle.sets.specs.Mask.{bit}
 use Rattle.rules.specs.Requests.{change}
 use Rattle.rules.specs.Numbers.{state_refusal, conflicts, first_of}
+use Rattle.book.specs.Tables.{number}
 use Rattle.book.specs.Slice.{tables, Full}
 use Rattle.deeds.specs.Outcome.{decide}
 use Rattle.deeds.proofs.OutcomeLaws.{settled_changed, settled_kept}
@@ -18,7 +19,7 @@ returns-then-not-is_in_row c =
     let d = tables s.book.now in
     let full : Full s.book.now = omega arith in
     settled_kept
-    (refused_once (not (bit (d.row s.table s.b) s.a)) 6 (ap not (sym c.is_in_row.ensures ∙ c.if-not-is_in_row.true))) full
+    (refused_once (not (bit (d.row (number s.table) s.b) s.a)) 6 (ap not (sym c.is_in_row.ensures ∙ c.if-not-is_in_row.true))) full
 
 pub returns : goal.returns
 unfolding decide state_refusal conflicts first_of change
@@ -27,6 +28,6 @@ returns c =
     let d = tables s.book.now in
     let stored = c.take_from_row.ensures in
     settled_changed
-    (not_refused (not (bit (d.row s.table s.b) s.a)) 6
+    (not_refused (not (bit (d.row (number s.table) s.b) s.a)) 6
     (ap not (sym c.is_in_row.ensures ∙ c.if-not-is_in_row.false)))
     stored.0 stored.1
