@@ -12,7 +12,7 @@ loop-s-init c k h out =
     let s = c.args in
     let rows = (tables s.book.now).row (number s.table) in
     let none = rw (c.into_iter-s-iterator.ensures.into_iter_gives, c.each-s-items.ensures, c.head.ensures) at out in
-    ap (pair_free rows) (c.requires.1 k h none) ∙ free_none rows
+    ap (pair_free rows) (c.requires k h none) ∙ free_none rows
 
 pub returns-then-not-is_pair_free : goal.returns-then-not-is_pair_free
 returns-then-not-is_pair_free c =
