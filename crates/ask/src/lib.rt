@@ -77,6 +77,7 @@ fn is_defined(book: &book::Words, things: u64, v: u64) -> bool
 }
 
 // Whether v is an open order.
+#[tactic(auto, unfolding(rules::specs::Requests::is_open))]
 fn is_open_order(book: &book::Words, v: u64) -> bool
     ensures { result ≡ (ltb v 64 && is_open (tables book.now) v) }
 {
@@ -91,6 +92,7 @@ fn is_task_mask(book: &book::Words, v: u64) -> bool
 }
 
 // Whether v is what it must be.
+#[tactic(auto, unfolding(rules::specs::Requests::fits))]
 fn is_fit(book: &book::Words, argument: Argument, v: u64) -> bool
     ensures { result ≡ fits (tables book.now) (need_of argument) v }
 {

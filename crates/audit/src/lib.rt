@@ -4,12 +4,13 @@
 ghost use Rattle.std.specs.Prelude.{◌≡◌, false, not, ◌<◌};
 ghost use Rattle.rules.specs.Book.{SME, DME};
 ghost use Rattle.rules.specs.Trade.{subject_group, role_group};
-ghost use Rattle.rules.specs.Audit.{apart, kept_at, broken, first_broken};
+ghost use Rattle.rules.specs.Audit.{apart, kept_at, broken};
 ghost use Rattle.book.specs.Slice.{tables, WellFormed};
 ghost use Rattle.audit.specs.Guarantee.{Finds};
 ghost use Rattle.audit.specs.Asked.{asked_by};
+ghost use Rattle.audit.specs.Broken.{IsFirstBroken};
 
-use answers::Finding;
+use answers::{Fault, Finding};
 use owners::Owner;
 use table_rules::RowRule;
 
@@ -20,6 +21,7 @@ const PAST: u8 = 11;
 fn asked(book: &book::Words, rule: u8) -> u64
     ensures { result ≡ asked_by (tables book.now) rule }
 {
+    // Stays: a rule goes by its number, which document 01 gives it and a finding tells a C caller; by name each would need a way back to it.
     match rule {
         6..=7 => book::head(book, book::ROLES),
         8 => book::head(book, book::SUBJECTS),
@@ -29,7 +31,7 @@ fn asked(book: &book::Words, rule: u8) -> u64
 
 // Rule 4 of task x: one that is SME to none needs no group.
 fn is_sme_apart(book: &book::Words, x: u64) -> bool
-    requires { (x < 64) }
+    requires { x < 64 }
     ensures { result ≡ apart ((tables book.now).row SME) (role_group (tables book.now)) x }
 {
     if book::row(book, book::SME, x) == 0 {
@@ -40,7 +42,7 @@ fn is_sme_apart(book: &book::Words, x: u64) -> bool
 
 // Rule 5 of task x: one that is DME to none needs no group.
 fn is_dme_apart(book: &book::Words, x: u64) -> bool
-    requires { (x < 64) }
+    requires { x < 64 }
     ensures { result ≡ apart ((tables book.now).row DME) (subject_group (tables book.now)) x }
 {
     if book::row(book, book::DME, x) == 0 {
@@ -104,12 +106,10 @@ fn is_kept(book: &book::Words, rule: u8) -> bool
     requires { WellFormed book.now × (rule < 9) }
     ensures { result ≡ not (broken (tables book.now) rule) }
 {
-    let mut left = asked(book, rule);
-    while left != 0 {
-        if !is_kept_at(book, rule, sets::lowest(left)) {
+    for x in sets::each(asked(book, rule)) {
+        if !is_kept_at(book, rule, x) {
             return false;
         }
-        left = sets::rest(left);
     }
     true
 }
@@ -126,33 +126,31 @@ fn is_broken(book: &book::Words, rule: u8) -> bool
     }
 }
 
-// The lowest broken rule; 11 where all ten are kept.
-fn lowest_broken(book: &book::Words) -> u8
+// The lowest broken rule, if one is broken.
+fn lowest_broken(book: &book::Words) -> Option<u8>
     requires { WellFormed book.now }
-    ensures { result ≡ first_broken (tables book.now) }
+    ensures { IsFirstBroken (tables book.now) result }
 {
     for rule in 1..PAST {
         if is_broken(book, rule) {
-            return rule;
+            return Some(rule);
         }
     }
-    PAST
+    None
 }
 
 // The audit of a lent slice of any length.
-pub fn audit(book: &[u64]) -> Finding
-    ensures { Finds book.now result }
+pub fn audit(words: &[u64]) -> Finding
+    ensures { Finds words.now result }
 {
-    if book.len() != book::WORDS {
-        return Finding::WrongLength;
+    let Ok(book) = <&book::Words>::try_from(words) else {
+        return Err(Fault::WrongLength);
+    };
+    if let Some(i) = scan::first_bad(book) {
+        return Err(Fault::BadWord(i));
     }
-    let i = scan::first_bad(book);
-    if i < book::END {
-        return Finding::BadWord(i);
+    match lowest_broken(book) {
+        Some(rule) => Err(Fault::Broken(rule)),
+        None => Ok(()),
     }
-    let rule = lowest_broken(book);
-    if rule < PAST {
-        return Finding::Broken(rule);
-    }
-    Finding::Sound
 }

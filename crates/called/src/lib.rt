@@ -1,6 +1,7 @@
 // Things as they are told: the number, and behind it the name where the panel has been given one.
 #![tactic(auto)]
 
+use labels::Sort;
 use output::Paper;
 
 // What things are told with: the paper, and the panel's names.
@@ -12,26 +13,24 @@ pub struct Pen<'p, 'a> {
 
 impl<'p, 'a> Pen<'p, 'a> {
     // The word of a sort.
-    pub fn sort(&mut self, sort: u64) {
+    pub fn sort(&mut self, sort: Sort) {
         self.paper.text(match sort {
-            labels::TASK => "task",
-            labels::ROLE => "role",
-            labels::PERSON => "person",
+            Sort::Task => "task",
+            Sort::Role => "role",
+            Sort::Person => "person",
             _ => "order",
         });
     }
 
     // The name of a thing; nothing where it has none.
-    pub fn name(&mut self, sort: u64, n: u64) {
-        for i in 0..labels::length_of(self.names, sort, n) {
-            self.paper.byte(labels::letter(self.names, sort, n, i));
-        }
+    pub fn name(&mut self, sort: Sort, n: u64) {
+        self.paper.bytes(labels::name_of(self.names, sort, n));
     }
 
     // A thing: `0 (wake)`, or `0` where it has no name.
-    pub fn thing(&mut self, sort: u64, n: u64) {
+    pub fn thing(&mut self, sort: Sort, n: u64) {
         self.paper.number(n);
-        if labels::length_of(self.names, sort, n) != 0 {
+        if !labels::name_of(self.names, sort, n).is_empty() {
             self.paper.text(" (");
             self.name(sort, n);
             self.paper.text(")");
@@ -39,7 +38,7 @@ impl<'p, 'a> Pen<'p, 'a> {
     }
 
     // The members of a set of things, parted by blanks; - where it is empty.
-    pub fn things(&mut self, sort: u64, set: u64) {
+    pub fn things(&mut self, sort: Sort, set: u64) {
         if set == 0 {
             self.paper.byte(b'-');
         }
@@ -53,9 +52,9 @@ impl<'p, 'a> Pen<'p, 'a> {
 }
 
 // How many bytes a thing takes behind `before` others, with the blank that parts it from them.
-fn width_with(names: &[u8], sort: u64, n: u64, before: u64) -> u64 {
+fn width_with(names: &[u8], sort: Sort, n: u64, before: u64) -> u64 {
     let digits = if n < 10 { 1 } else { 2 };
-    let name = labels::length_of(names, sort, n) as u64;
+    let name = labels::name_of(names, sort, n).len() as u64;
     let named = if name == 0 { 0 } else { name.saturating_add(3) };
     let gap = if before == 0 { 0 } else { 1 };
     before
@@ -65,7 +64,7 @@ fn width_with(names: &[u8], sort: u64, n: u64, before: u64) -> u64 {
 }
 
 // How many bytes the members of a set of things take.
-pub fn width(names: &[u8], sort: u64, set: u64) -> u64 {
+pub fn width(names: &[u8], sort: Sort, set: u64) -> u64 {
     if set == 0 {
         return 1;
     }

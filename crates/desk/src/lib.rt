@@ -11,7 +11,7 @@ ghost use Rattle.deeds.specs.Outcome.{Settled};
 ghost use Rattle.desk.specs.Guarantee.{ask, Answered};
 ghost use Rattle.desk.specs.Tables.{staff_table};
 
-use answers::Answer;
+use answers::{Answer, Refusal};
 
 // The tables that kinds 8, 9, 10 add to and 15, 16, 17 take from.
 const STAFF: [u64; 3] = [book::TASKS_OF, book::JUNIORS, book::ROLES_OF];
@@ -25,6 +25,7 @@ fn staff_table(place: u64) -> u64
 }
 
 // What the kind does, on a well-formed book and arguments that fit; what is no kind is refused.
+// Stays: a kind is a number, as the C interface gives it, and `Answered` promises an answer to any number.
 fn carry_out(book: &mut book::Words, kind: u64, a: u64, b: u64, c: u64) -> Answer
     requires { WellFormed book.old × (fault_of (tables book.old) (row_of kind) a b c ≡ 0) }
     ensures { Settled book.old book.new (row_of kind).deed a b c result }
@@ -39,24 +40,29 @@ fn carry_out(book: &mut book::Words, kind: u64, a: u64, b: u64, c: u64) -> Answe
         14 => orders::close_order(book, a),
         15..=17 => unopposed::take_back(book, staff_table(kind - 15), a, b),
         18..=21 => pairs::unrelate(book, kind - 18, a, b),
-        _ => Answer::UnknownKind,
+        _ => Err(Refusal::UnknownKind),
     }
 }
 
-// One request on a lent book: the answer, and the change in place where the answer is 0.
-pub fn request(book: &mut [u64], kind: u64, a: u64, b: u64, c: u64) -> Answer
+// One request on as many words as a book has.
+fn request_on(book: &mut book::Words, kind: u64, a: u64, b: u64, c: u64) -> Answer
     ensures { Answered book.old book.new (ask kind a b c) result }
 {
-    if book.len() != book::WORDS {
-        return Answer::WrongLength;
+    if let Some(place) = scan::first_bad(book) {
+        return Err(Refusal::BadWord(place));
     }
-    let bad = scan::first_bad(book);
-    if bad < book::END {
-        return Answer::BadWord(bad);
-    }
-    let fault = ask::argument_fault(book, kind, a, b, c);
-    if fault != 0 {
-        return Answer::BadArgument(fault);
+    if let Some(place) = ask::argument_fault(book, kind, a, b, c) {
+        return Err(Refusal::BadArgument(place));
     }
     carry_out(book, kind, a, b, c)
+}
+
+// One request on a lent book: the answer, and the change in place where the answer is 0.
+pub fn request(words: &mut [u64], kind: u64, a: u64, b: u64, c: u64) -> Answer
+    ensures { Answered words.old words.new (ask kind a b c) result }
+{
+    match words.as_mut_array() {
+        Some(book) => request_on(book, kind, a, b, c),
+        None => Err(Refusal::WrongLength),
+    }
 }

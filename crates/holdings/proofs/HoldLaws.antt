@@ -38,7 +38,8 @@ sme_silent d c hand at = ap (λ (q : ℕ). given (ltb q 64) (say_pair 33 (holds 
 module _ (d : Book) (s : Sized d) (c hand : ℕ) (hc : c < 64) where
   -- A search among those finds what a search of all that c holds finds.
   pub held_found : (n p those : ℕ) → ((u v : ℕ) → u < 64 → bit (d.row n u) v ≡ true → bit hand v ≡ true → bit those u ≡ true)
-      → {held : ℕ} {v : Option (ℕ × ℕ)} → held ≡ bit_and (held_by d p c) those → v ≡ found_pair (between (d.row n) held hand) → v ≡ found_pair (holds n d c hand p)
+      → {held : ℕ} {v : Option (ℕ × ℕ)} → held ≡ bit_and (held_by d p c) those → v ≡ found_pair (between (d.row n) held hand)
+      → v ≡ found_pair (holds n d c hand p)
   held_found n p those enough e f =
       f ∙ ap (λ (m : ℕ). found_pair (between (d.row n) m hand)) e
       ∙ found_same (between (d.row n) (bit_and (held_by d p c) those) hand) (holds n d c hand p) (λ u v hu hv. exactly_same (record {

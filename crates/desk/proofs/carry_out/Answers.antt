@@ -19,7 +19,7 @@ activate-requires c =
     let is = c.in-11.is in
     let a = a_lt d s.kind s.a s.b s.c c.requires.1 11 1 (omega arith) (omega arith) refl in
     let b = b_lt d s.kind s.a s.b s.c c.requires.1 11 1 (omega arith) (omega arith) refl in
-    (search rules, a, b)
+    (a, b)
 
 pub open_order-requires : goal.open_order-requires
 unfolding all row_of table
@@ -27,7 +27,7 @@ open_order-requires c =
     let s = c.args in
     let d = tables s.book.now in
     let is = c.in-12.is in
-    (search rules, a_lt d s.kind s.a s.b s.c c.requires.1 12 1 (omega arith) (omega arith) refl)
+    a_lt d s.kind s.a s.b s.c c.requires.1 12 1 (omega arith) (omega arith) refl
 
 pub allocate-requires : goal.allocate-requires
 unfolding all row_of table
@@ -46,14 +46,13 @@ close_order-requires c =
     let s = c.args in
     let d = tables s.book.now in
     let is = c.in-14.is in
-    (search rules, a_lt d s.kind s.a s.b s.c c.requires.1 14 1 (omega arith) (omega arith) refl)
+    a_lt d s.kind s.a s.b s.c c.requires.1 14 1 (omega arith) (omega arith) refl
 
 pub define-requires : goal.define-requires
 unfolding all row_of table
 define-requires c =
     let s = c.args in
     let d = tables s.book.now in (
-      search rules,
       omega arith,
       a_lt d s.kind s.a s.b s.c c.requires.1 1 3
           c.in-1-to-3.if-kind-lt1-own.false c.in-1-to-3.if-kind-lt4-own.true refl,
@@ -106,7 +105,7 @@ take_back-requires c =
     low c.in-15-to-17.if-kind-lt18-own.true refl in
     let b = b_lt d s.kind s.a s.b s.c c.requires.1 15 3
     low c.in-15-to-17.if-kind-lt18-own.true refl in
-    (search rules, c.staff_table-in-15-to-17.ensures.1, a, b)
+    (c.staff_table-in-15-to-17.ensures.1, a, b)
 
 pub unrelate-requires : goal.unrelate-requires
 unfolding all row_of table
@@ -117,7 +116,7 @@ unrelate-requires c =
     c.in-18-to-21.if-kind-lt18-own.false c.in-18-to-21.if-kind-lt22-own.true refl in
     let b = b_lt d s.kind s.a s.b s.c c.requires.1 18 4
     c.in-18-to-21.if-kind-lt18-own.false c.in-18-to-21.if-kind-lt22-own.true refl in
-    (search rules, omega arith, a, b)
+    (omega arith, a, b)
 
 pub returns-in-11 : goal.returns-in-11
 returns-in-11 c = rw c.in-11.is (from_activate c.activate.ensures)

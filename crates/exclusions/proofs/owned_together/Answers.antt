@@ -31,7 +31,8 @@ returns-in-Some-lowest_starter c =
     let b = c.alone-2.ensures in
     subject_owns_both_lem d s.a s.b
     (both_found d sized c.requires.0.1 Role s.a s.b (omega arith) (omega arith) None a b xs ys c.in_default.ensures)
-    (both_found d sized c.requires.0.1 Subject s.a s.b (omega arith) (omega arith) (Some c.in-Some-lowest_starter.subject) a b xs ys c.in-Some-lowest_starter.ensures)
+    (both_found d sized c.requires.0.1 Subject s.a s.b (omega arith) (omega arith) (Some c.in-Some-lowest_starter.subject)
+    a b xs ys c.in-Some-lowest_starter.ensures)
 
 pub returns : goal.returns
 returns c =
