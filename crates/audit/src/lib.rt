@@ -11,6 +11,7 @@ ghost use Rattle.audit.specs.Asked.{asked_by};
 ghost use Rattle.audit.specs.Broken.{IsFirstBroken};
 
 use answers::{Fault, Finding};
+use book::Table;
 use owners::Owner;
 use table_rules::RowRule;
 
@@ -34,10 +35,10 @@ fn is_sme_apart(book: &book::Words, x: u64) -> bool
     requires { x < 64 }
     ensures { result ≡ apart ((tables book.now).row SME) (role_group (tables book.now)) x }
 {
-    if book::row(book, book::SME, x) == 0 {
+    if book::row(book, Table::Sme, x) == 0 {
         return true;
     }
-    table_rules::is_apart(book, book::SME, trade::role_group(book, x), x)
+    table_rules::is_apart(book, Table::Sme, trade::role_group(book, x), x)
 }
 
 // Rule 5 of task x: one that is DME to none needs no group.
@@ -45,10 +46,10 @@ fn is_dme_apart(book: &book::Words, x: u64) -> bool
     requires { x < 64 }
     ensures { result ≡ apart ((tables book.now).row DME) (subject_group (tables book.now)) x }
 {
-    if book::row(book, book::DME, x) == 0 {
+    if book::row(book, Table::Dme, x) == 0 {
         return true;
     }
-    table_rules::is_apart(book, book::DME, trade::subject_group(book, x), x)
+    table_rules::is_apart(book, Table::Dme, trade::subject_group(book, x), x)
 }
 
 // Rules 1 and 2 of task x. What is neither asks nothing here.
@@ -69,7 +70,7 @@ fn is_exclusion_kept(book: &book::Words, rule: u8, x: u64) -> bool
     ensures { result ≡ kept_at (tables book.now) rule x }
 {
     match rule {
-        3 => table_rules::is_apart(book, book::SME, book::row(book, book::DME, x), x),
+        3 => table_rules::is_apart(book, Table::Sme, book::row(book, Table::Dme, x), x),
         4 => is_sme_apart(book, x),
         _ => is_dme_apart(book, x),
     }
