@@ -6,9 +6,9 @@ ghost use Rattle.book.specs.Slice.{tables};
 ghost use Rattle.answers.specs.Answers.{said};
 ghost use Rattle.deeds.specs.Outcome.{decide, Settled};
 
+use crate::open_refusal;
 use answers::{Answer, Refusal};
 use book::Table;
-use crate::open_refusal;
 
 // The answer: 6 where bit b of row a isn't set, whatever row b has; then 7 while an order is open.
 fn judge_back(book: &book::Words, table: Table, a: u64, b: u64) -> Answer

@@ -13,8 +13,8 @@ ghost use Rattle.answers.specs.Answers.{said};
 ghost use Rattle.deeds.specs.Outcome.{decide, Settled};
 
 use answers::{Answer, Refusal};
-use book::Table;
 pub use back::unrelate;
+use book::Table;
 
 // 7 while an order is open.
 fn open_refusal(book: &book::Words) -> Answer
