@@ -1,10 +1,9 @@
 // Document 01, "The audit": it only reads, and names the lowest broken rule.
 #![tactic(auto)]
 
-ghost use Rattle.std.specs.Prelude.{◌≡◌, false, not, ◌<◌};
-ghost use Rattle.rules.specs.Book.{SME, DME};
-ghost use Rattle.rules.specs.Trade.{subject_group, role_group};
+ghost use Rattle.std.specs.Prelude.{◌≡◌, false, not, ℕ, ◌<◌};
 ghost use Rattle.rules.specs.Audit.{apart, kept_at, broken};
+ghost use Rattle.book.specs.Tables.{number};
 ghost use Rattle.book.specs.Slice.{tables, WellFormed};
 ghost use Rattle.audit.specs.Guarantee.{Finds};
 ghost use Rattle.audit.specs.Asked.{asked_by};
@@ -13,7 +12,6 @@ ghost use Rattle.audit.specs.Broken.{IsFirstBroken};
 use answers::{Fault, Finding};
 use book::Table;
 use owners::Owner;
-use table_rules::RowRule;
 
 // The first number that is no rule.
 const PAST: u8 = 11;
@@ -30,26 +28,15 @@ fn asked(book: &book::Words, rule: u8) -> u64
     }
 }
 
-// Rule 4 of task x: one that is SME to none needs no group.
-fn is_sme_apart(book: &book::Words, x: u64) -> bool
-    requires { x < 64 }
-    ensures { result ≡ apart ((tables book.now).row SME) (role_group (tables book.now)) x }
+// Rules 4 and 5 of task x: its row has none of its group, which is made only where the row has somebody.
+fn is_apart_from<F: FnOnce(u64) -> u64>(book: &book::Words, table: Table, group: F, x: u64) -> bool
+    requires { (x < 64) × F.pre group x }
+    ensures { (groups : ℕ → ℕ) → ((m : ℕ) → F.post group x m → m ≡ groups x) → result ≡ apart ((tables book.now).row (number table)) groups x }
 {
-    if book::row(book, Table::Sme, x) == 0 {
+    if book::row(book, table, x) == 0 {
         return true;
     }
-    table_rules::is_apart(book, Table::Sme, trade::role_group(book, x), x)
-}
-
-// Rule 5 of task x: one that is DME to none needs no group.
-fn is_dme_apart(book: &book::Words, x: u64) -> bool
-    requires { x < 64 }
-    ensures { result ≡ apart ((tables book.now).row DME) (subject_group (tables book.now)) x }
-{
-    if book::row(book, Table::Dme, x) == 0 {
-        return true;
-    }
-    table_rules::is_apart(book, Table::Dme, trade::subject_group(book, x), x)
+    table_rules::is_apart(book, table, group(x), x)
 }
 
 // Rules 1 and 2 of task x. What is neither asks nothing here.
@@ -58,8 +45,8 @@ fn is_pair_kept(book: &book::Words, rule: u8, x: u64) -> bool
     ensures { result ≡ kept_at (tables book.now) rule x }
 {
     match rule {
-        1 => table_rules::is_kept_in_four(book, RowRule::NotOwn, x),
-        2 => table_rules::is_kept_in_four(book, RowRule::Symmetric, x),
+        1 => table_rules::is_kept_in_four(|table| !book::is_in_row(book, table, x, x)),
+        2 => table_rules::is_kept_in_four(|table| table_rules::is_two_sided(book, table, x)),
         _ => true,
     }
 }
@@ -71,8 +58,8 @@ fn is_exclusion_kept(book: &book::Words, rule: u8, x: u64) -> bool
 {
     match rule {
         3 => table_rules::is_apart(book, Table::Sme, book::row(book, Table::Dme, x), x),
-        4 => is_sme_apart(book, x),
-        _ => is_dme_apart(book, x),
+        4 => is_apart_from(book, Table::Sme, |t| trade::role_group(book, t), x),
+        _ => is_apart_from(book, Table::Dme, |t| trade::subject_group(book, t), x),
     }
 }
 

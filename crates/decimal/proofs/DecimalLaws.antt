@@ -9,7 +9,6 @@ use lib.Dec.{ltb}
 use lib.ListN.{length, drop, get_or, drop_of_length-le}
 use lib.Seq.{drop-cons}
 use borrow.Author.Tests.{ltb-true, ltb-false, lt-ltb, le-ltb}
-use Rattle.sets.proofs.Logic.{and_out}
 use Rattle.decimal.specs.Decimal.{is_digit, sized, shifted, number_from}
 use Rattle.decimal.specs.declared.Unread.{Unread}
 use Rattle.decimal.specs.declared.Unread.TheVariants.{TooLarge, NotDecimal}
@@ -57,11 +56,6 @@ larger u n m f h = go (ltb n (2 ^ 64)) refl
 pub known_digit : (b : ℕ) → is_ascii_digit b ≡ is_digit b
 unfolding is_digit
 known_digit b = grind (arith, nat_tests)
-
--- A digit's byte lies from 48 to 57.
-pub digit_range : (b : ℕ) → is_digit b ≡ true → (48 ≤ b) × (b < 58)
-unfolding is_digit
-digit_range b e = let h = and_out (ltb 47 b) (ltb b 58) e in (ltb-true _ _ h.0, ltb-true _ _ h.1)
 
 module _ (l : List ℕ) (i : ℕ) (h : i < length l) where
   one_more : (n : ℕ) → number_from n (drop i l) ≡ number_from n (get_or l i 0 ∷ drop (i + 1) l)

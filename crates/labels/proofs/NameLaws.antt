@@ -173,7 +173,9 @@ module _ (names : List ℕ) (sort n : ℕ) where
   pub no_thing_no_name : ((sort < 4) × (n < 64) → ⊥) → [] ≡ name_bytes names sort n
   unfolding name_length name_bytes
   no_thing_no_name h =
-      let none : name_length names sort n ≡ 0 = lowest_is 24 0 (blank_at names sort n) 0 (omega arith) (omega arith) (eq-eqb _ _ (letter_no_thing names sort n 0 h)) (λ j a b. absurd (omega arith)) in
+      let blank = eq-eqb _ _ (letter_no_thing names sort n 0 h) in
+      let none : name_length names sort n ≡ 0 =
+          lowest_is 24 0 (blank_at names sort n) 0 (omega arith) (omega arith) blank (λ j a b. absurd (omega arith)) in
       ap (λ (k : ℕ). take k (drop (row_at sort n) names)) (sym none)
 
   module _ (s : sort < 4) (h : n < 64) (at : ℕ) (e : at ≡ row_at sort n) where
@@ -188,10 +190,12 @@ module _ (names : List ℕ) (sort n : ℕ) where
         → unwrap_or r (at + 24) ≡ at + name_length names sort n
     unfolding name_length
     name_end None f =
-        let l = lowest_end 24 (blank_at names sort n) (λ k b. ne_eqb _ _ (λ q. f (at + k) (omega arith) (omega arith) (letter_within names sort n k s at h b e ∙ q))) in
+        let l = lowest_end 24 (blank_at names sort n)
+            (λ k b. ne_eqb _ _ (λ q. f (at + k) (omega arith) (omega arith) (letter_within names sort n k s at h b e ∙ q))) in
         omega arith
     name_end (Some i) f =
-        let l = lowest_is 24 0 (blank_at names sort n) (i - at) (omega arith) (omega arith) (eq-eqb _ _ (sym (shift i f.0 f.1) ∙ f.2)) (λ k a b. ne_eqb _ _ (λ q. f.3 (at + k) (omega arith) (omega arith) (letter_within names sort n k s at h (omega arith) e ∙ q))) in
+        let l = lowest_is 24 0 (blank_at names sort n) (i - at) (omega arith) (omega arith) (eq-eqb _ _ (sym (shift i f.0 f.1) ∙ f.2))
+            (λ k a b. ne_eqb _ _ (λ q. f.3 (at + k) (omega arith) (omega arith) (letter_within names sort n k s at h (omega arith) e ∙ q))) in
         omega arith
 
     -- Where it has letters, they lie within the table.
@@ -202,13 +206,18 @@ module _ (names : List ℕ) (sort n : ℕ) where
         last : eqb (name_letter names sort n (name_length names sort n - 1)) 32 ≡ false
         last = lowest_first 24 0 (blank_at names sort n) (name_length names sort n - 1) (omega arith) (omega arith)
 
+        within : name_length names sort n - 1 < 24
+        within = omega (arith, lowest_most 24 0 (blank_at names sort n))
+
         go : Dec (length names < at + name_length names sort n) → at + name_length names sort n ≤ length names
-        go (yes d) = absurd (not_both _ (eq-eqb _ _ (sym (letter_within names sort n (name_length names sort n - 1) s at h (omega (arith, lowest_most 24 0 (blank_at names sort n))) e) ∙ sym (letter_out names _ (omega arith)))) last)
+        go (yes d) = absurd (not_both _ (eq-eqb _ _ (sym (letter_within names sort n _ s at h within e) ∙ sym (letter_out names _ (omega arith)))) last)
         go (no d) = omega arith
 
     -- So the name is what a read up to there gives, and where it gives nothing, no bytes.
     pub name_read : (end : ℕ) → end ≡ at + name_length names sort n → (g : Option (Bor (List ℕ))) (none : Bor (List ℕ)) → none.now ≡ []
-        → MatchOption g ((end < at) ⊎ (length names < end)) (λ x. (at ≤ end) × (end ≤ length names) × (x.now ≡ slice_range names at end) × (length x.now + at ≡ end)) × ((at ≤ end) × (end ≤ length names) → IsSome g)
+        → MatchOption g ((end < at) ⊎ (length names < end))
+          (λ x. (at ≤ end) × (end ≤ length names) × (x.now ≡ slice_range names at end) × (length x.now + at ≡ end))
+          × ((at ≤ end) × (end ≤ length names) → IsSome g)
         → (unwrap_or g none).now ≡ name_bytes names sort n
     unfolding name_bytes
     name_read end q None none z f = z ∙ ap (λ (k : ℕ). take k (drop (row_at sort n) names)) (go (dec_lt 0 (name_length names sort n)) f.0)

@@ -87,10 +87,7 @@ fn text_of(row: u64) -> Option<u64> {
     if row < OWN {
         return Some(row);
     }
-    match vocabulary::kind_of(row) {
-        0 => None,
-        kind => kind.checked_add(OWN - 1),
-    }
+    vocabulary::kind_of(row)?.checked_add(OWN - 1)
 }
 
 // The line of a word: its kind and arguments, and what it does.

@@ -1,7 +1,7 @@
 // Text for standard output, gathered on a lent array, the paper, and written when that is full or when it is asked for.
 #![tactic(auto)]
 
-ghost use Rattle.std.specs.Prelude.{◌≤◌, length};
+ghost use Rattle.std.specs.Prelude.{◌≡◌, ◌≤◌, false, length};
 
 use std::io::{ErrorKind, Print};
 
@@ -34,7 +34,9 @@ fn hex_digit(n: u8) -> u8 {
 
 impl<'a> Paper<'a> {
     // A blank paper, on any room.
-    pub fn on(room: &'a mut [u8]) -> Paper<'a> {
+    pub fn on(room: &'a mut [u8]) -> Paper<'a>
+        ensures blank { (result.used ≡ 0) × (result.quoted ≡ false) × (result.failed ≡ false) }
+    {
         Paper {
             room,
             used: 0,
@@ -60,7 +62,9 @@ impl<'a> Paper<'a> {
     }
 
     // Writes what was gathered. After a write that failed nothing is written any more.
-    pub fn flush(&mut self) {
+    pub fn flush(&mut self)
+        ensures { self.new.quoted ≡ self.old.quoted }
+    {
         if !self.failed && !io::write_all(OUTPUT, &self.room[..self.used]) {
             self.failed = true;
         }
@@ -68,7 +72,9 @@ impl<'a> Paper<'a> {
     }
 
     // One byte more, as it is.
-    fn put(&mut self, byte: u8) {
+    fn put(&mut self, byte: u8)
+        ensures { self.new.quoted ≡ self.old.quoted }
+    {
         if self.used == self.room.len() {
             self.flush();
         }
@@ -79,12 +85,16 @@ impl<'a> Paper<'a> {
     }
 
     // From here on what is put on the paper stands inside a JSON string, or no longer does.
-    pub fn quoted(&mut self, on: bool) {
+    pub fn quoted(&mut self, on: bool)
+        ensures { self.new.quoted ≡ on }
+    {
         self.quoted = on;
     }
 
     // A byte inside a JSON string: what JSON would take otherwise, and what is no letter of ASCII, is written by its number.
-    fn escaped(&mut self, byte: u8) {
+    fn escaped(&mut self, byte: u8)
+        ensures { self.new.quoted ≡ self.old.quoted }
+    {
         match byte {
             b'"' | b'\\' => {
                 self.put(b'\\');
@@ -102,7 +112,9 @@ impl<'a> Paper<'a> {
     }
 
     // One byte more.
-    pub fn byte(&mut self, byte: u8) {
+    pub fn byte(&mut self, byte: u8)
+        ensures { self.new.quoted ≡ self.old.quoted }
+    {
         if self.quoted {
             self.escaped(byte);
         } else {
@@ -111,26 +123,34 @@ impl<'a> Paper<'a> {
     }
 
     // More bytes.
-    pub fn bytes(&mut self, text: &[u8]) {
+    pub fn bytes(&mut self, text: &[u8])
+        ensures { self.new.quoted ≡ self.old.quoted }
+    {
         for b in text {
             self.byte(*b);
         }
     }
 
     // More text.
-    pub fn text(&mut self, text: &str) {
+    pub fn text(&mut self, text: &str)
+        ensures { self.new.quoted ≡ self.old.quoted }
+    {
         self.bytes(text.as_bytes());
     }
 
     // A number in decimal.
-    pub fn number(&mut self, n: u64) {
+    pub fn number(&mut self, n: u64)
+        ensures { self.new.quoted ≡ self.old.quoted }
+    {
         let mut digits = [0u8; 20];
         let count = io::decimal(n, &mut digits);
         self.bytes(&digits[..count]);
     }
 
     // Text n of several, counted from 0; nothing where there are not so many.
-    pub fn nth(&mut self, texts: &[&str], n: u64) {
+    pub fn nth(&mut self, texts: &[&str], n: u64)
+        ensures { self.new.quoted ≡ self.old.quoted }
+    {
         if let Ok(i) = usize::try_from(n) {
             if let Some(text) = texts.get(i) {
                 self.text(text);

@@ -24,11 +24,7 @@ pub enum Outcome {
 pub fn clear(words: &mut [u64])
     ensures { words.new ≡ replicate (length words.old) 0 }
 {
-    let mut i: usize = 0;
-    while i < words.len() {
-        words[i] = 0;
-        i += 1;
-    }
+    words.fill(0);
 }
 
 // Makes a word the value; there may be no such word.
@@ -44,7 +40,7 @@ pub fn store(words: &mut [u64], i: usize, value: u64)
 fn part(words: &[u64], n: usize) -> usize
     ensures { Front n (length words.now) result }
 {
-    if n < words.len() { n } else { words.len() }
+    n.min(words.len())
 }
 
 // A request on the first n words.
@@ -53,7 +49,7 @@ fn ask(words: &mut [u64], n: usize, kind: u64, a: u64, b: u64, c: u64) -> Reply
     ensures changed { Changed words.old words.new n (ask kind a b c) }
 {
     let end = part(words, n);
-    answers::told(desk::request(&mut words[..end], kind, a, b, c))
+    Reply::from(desk::request(&mut words[..end], kind, a, b, c))
 }
 
 // The audit of the first n words.
@@ -61,7 +57,7 @@ fn inspect(words: &[u64], n: usize) -> Reply
     ensures { result ≡ audit_of words.now n }
 {
     let end = part(words, n);
-    answers::told_finding(audit::audit(&words[..end]))
+    Reply::from(audit::audit(&words[..end]))
 }
 
 // Does to the words what the line says to a book of n.

@@ -1,26 +1,21 @@
 // The audit's rules 1 to 8, over the tables, each of one number: a task, a role or a subject.
 #![tactic(auto)]
 
-ghost use Rattle.std.specs.Prelude.{◌≡◌, not, ◌<◌};
+ghost use Rattle.std.specs.Prelude.{◌≡◌, Bool, not, ℕ, ◌<◌};
 ghost use Rattle.sets.specs.Mask.{meet};
+ghost use Rattle.rules.specs.Book.{Book};
 ghost use Rattle.rules.specs.Trade.{reach};
 ghost use Rattle.rules.specs.Audit.{of_four, not_own, symmetric, owner_free};
+ghost use Rattle.book.specs.declared.Table.{Table};
 ghost use Rattle.book.specs.Tables.{number};
 ghost use Rattle.book.specs.Slice.{tables};
 ghost use Rattle.owners.specs.Owners.{start_of};
-ghost use Rattle.table_rules.specs.Rows.{row_kept};
+ghost use Rattle.table_rules.specs.Rows.{Asks};
 
 use book::Table;
 
-// What is asked of one task in each of the four pair tables: rule 1, and rule 2.
-#[derive(Clone, Copy)]
-pub enum RowRule {
-    NotOwn,
-    Symmetric,
-}
-
 // Rule 2 in one table: u is in the row of each task of its own row.
-fn is_two_sided(book: &book::Words, table: Table, u: u64) -> bool
+pub fn is_two_sided(book: &book::Words, table: Table, u: u64) -> bool
     requires { u < 64 }
     ensures { result ≡ symmetric ((tables book.now).row (number table)) u }
 {
@@ -32,25 +27,12 @@ fn is_two_sided(book: &book::Words, table: Table, u: u64) -> bool
     true
 }
 
-// Rule 1 or 2 in one table.
-fn is_kept_in(book: &book::Words, rule: RowRule, table: Table, t: u64) -> bool
-    requires { t < 64 }
-    ensures { result ≡ row_kept rule ((tables book.now).row (number table)) t }
+// Rules 1 and 2: whether what is asked of a task in a table holds in each of the four pair tables.
+pub fn is_kept_in_four<F: Fn(Table) -> bool>(is_kept_in: F) -> bool
+    requires { (table : Table) → F.pre is_kept_in table }
+    ensures { (d : Book) (rule : (ℕ → ℕ) → ℕ → Bool) (t : ℕ) → Asks (F.post is_kept_in) d rule t → result ≡ of_four rule d t }
 {
-    match rule {
-        RowRule::NotOwn => !book::is_in_row(book, table, t, t),
-        RowRule::Symmetric => is_two_sided(book, table, t),
-    }
-}
-
-// Rule 1 or 2 in all four pair tables.
-pub fn is_kept_in_four(book: &book::Words, rule: RowRule, t: u64) -> bool
-    requires { t < 64 }
-    ensures { result ≡ of_four (row_kept rule) (tables book.now) t }
-{
-    is_kept_in(book, rule, Table::Sme, t)
-        & (is_kept_in(book, rule, Table::Dme, t)
-            & (is_kept_in(book, rule, Table::Rb, t) & is_kept_in(book, rule, Table::Sb, t)))
+    is_kept_in(Table::Sme) & (is_kept_in(Table::Dme) & (is_kept_in(Table::Rb) & is_kept_in(Table::Sb)))
 }
 
 // Rules 3, 4 and 5: t's row has none of the others.

@@ -9,14 +9,17 @@
 mod arguments;
 mod words;
 
-ghost use Rattle.std.specs.Prelude.{◌≡◌, ◌≤◌, length};
+ghost use Rattle.std.specs.Prelude.{◌≡◌, ◌≤◌, ◌<◌, length};
+ghost use Rattle.std.specs.Option.{SomeIff};
+ghost use Rattle.vocabulary.specs.Vocabulary.{row_for, kind_of};
 ghost use Rattle.decimal.specs.Decimal.{number_of};
 ghost use Rattle.typed.specs.Words.{part};
 ghost use Rattle.typed.specs.Grammar.{sort_for, asked, ends, help_at, third_argument, second_argument, first_argument, by_number, request_at, show_at};
-ghost use Rattle.typed.specs.Grammar.{label_at, named_at, name_at, begun_by, line_of};
+ghost use Rattle.typed.specs.Grammar.{is_taken, label_at, named_at, name_at, begun_by, line_of};
 
-use arguments::Argument;
-pub use arguments::{Reason, first_of, second_of, third_of};
+pub use arguments::{Reason, wanted};
+use decimal::Unread;
+use labels::Sort;
 pub use words::next;
 
 // How much of a line its reader keeps.
@@ -39,10 +42,10 @@ pub enum Line {
     // What the book would answer.
     Try(Request),
     // The thing of a sort gets the name that stands from the one place to before the other.
-    Name(u64, u64, usize, usize),
+    Name(Sort, u64, usize, usize),
     Show,
     // The thing of a sort.
-    ShowOne(u64, u64),
+    ShowOne(Sort, u64),
     Audit,
     Help,
     // The row of the vocabulary.
@@ -52,18 +55,15 @@ pub enum Line {
     Fault(Reason, usize),
 }
 
-// How many sorts of things there are: what sort_of gives for a word that is none.
-const SORTS: u64 = 4;
-
 // The sort of thing that a word names: a task, a role, a person (or subject) or an order.
-pub fn sort_of(word: &[u8]) -> u64
+pub fn sort_of(word: &[u8]) -> Option<Sort>
     ensures { result ≡ sort_for word.now }
 {
-    let row = text::find_row(b"task    role    person  order   subject ", 0, 5, 8, word);
-    match row {
-        0..=3 => row,
-        4 => labels::PERSON,
-        _ => SORTS,
+    match text::find_row(b"task    role    person  order   subject ", 0, 5, 8, word)? {
+        0 => Some(Sort::Task),
+        1 => Some(Sort::Role),
+        3 => Some(Sort::Order),
+        _ => Some(Sort::Person),
     }
 }
 
@@ -105,9 +105,9 @@ fn third(
 ) -> Line
     ensures { result ≡ third_argument line.now whole names.now trial kind a b at }
 {
-    match arguments::read_argument(line, whole, names, arguments::third_of(kind), at) {
-        Argument::Is(c, behind) => ended(line, whole, behind, ask(trial, kind, a, b, c)),
-        Argument::Not(reason, start) => Line::Fault(reason, start),
+    match arguments::read_argument(line, whole, names, wanted(kind).c, at) {
+        Ok((c, behind)) => ended(line, whole, behind, ask(trial, kind, a, b, c)),
+        Err(fault) => Line::Fault(fault.reason, fault.start),
     }
 }
 
@@ -115,9 +115,9 @@ fn third(
 fn second(line: &[u8], whole: bool, names: &[u8], trial: bool, kind: u64, a: u64, at: usize) -> Line
     ensures { result ≡ second_argument line.now whole names.now trial kind a at }
 {
-    match arguments::read_argument(line, whole, names, arguments::second_of(kind), at) {
-        Argument::Is(b, behind) => third(line, whole, names, trial, kind, a, b, behind),
-        Argument::Not(reason, start) => Line::Fault(reason, start),
+    match arguments::read_argument(line, whole, names, wanted(kind).b, at) {
+        Ok((b, behind)) => third(line, whole, names, trial, kind, a, b, behind),
+        Err(fault) => Line::Fault(fault.reason, fault.start),
     }
 }
 
@@ -125,9 +125,9 @@ fn second(line: &[u8], whole: bool, names: &[u8], trial: bool, kind: u64, a: u64
 fn first(line: &[u8], whole: bool, names: &[u8], trial: bool, kind: u64, at: usize) -> Line
     ensures { result ≡ first_argument line.now whole names.now trial kind at }
 {
-    match arguments::read_argument(line, whole, names, arguments::first_of(kind), at) {
-        Argument::Is(a, behind) => second(line, whole, names, trial, kind, a, behind),
-        Argument::Not(reason, start) => Line::Fault(reason, start),
+    match arguments::read_argument(line, whole, names, wanted(kind).a, at) {
+        Ok((a, behind)) => second(line, whole, names, trial, kind, a, behind),
+        Err(fault) => Line::Fault(fault.reason, fault.start),
     }
 }
 
@@ -137,10 +137,17 @@ fn numbered(line: &[u8], whole: bool, names: &[u8], trial: bool, start: usize, e
     ensures { result ≡ by_number line.now whole names.now trial start end (number_of (part start end line.now)) }
 {
     match decimal::read(&line[start..end]) {
-        decimal::Number::Is(kind) => first(line, whole, names, trial, kind, end),
-        decimal::Number::TooLarge => Line::Fault(Reason::TooLarge, start),
-        decimal::Number::NotDecimal => Line::Fault(Reason::UnknownWord, start),
+        Ok(kind) => first(line, whole, names, trial, kind, end),
+        Err(Unread::TooLarge) => Line::Fault(Reason::TooLarge, start),
+        Err(Unread::NotDecimal) => Line::Fault(Reason::UnknownWord, start),
     }
+}
+
+// The kind that a word of the panel names, if it names one.
+fn kind_of(word: &[u8]) -> Option<u64>
+    ensures { SomeIff result (0 < kind_of (row_for word.now)) (kind_of (row_for word.now)) }
+{
+    vocabulary::kind_of(vocabulary::find(word)?)
 }
 
 // The request that stands from `at` on.
@@ -156,11 +163,10 @@ fn read_request(line: &[u8], whole: bool, names: &[u8], trial: bool, at: usize) 
     if start == end {
         return Line::Fault(Reason::TooFew, start);
     }
-    let kind = vocabulary::kind_of(vocabulary::find(&line[start..end]));
-    if kind == 0 {
-        return numbered(line, whole, names, trial, start, end);
+    match kind_of(&line[start..end]) {
+        Some(kind) => first(line, whole, names, trial, kind, end),
+        None => numbered(line, whole, names, trial, start, end),
     }
-    first(line, whole, names, trial, kind, end)
 }
 
 // `show` alone, or with a sort and one of it; the word `show` ends before `at`.
@@ -176,13 +182,12 @@ fn show(line: &[u8], whole: bool, names: &[u8], at: usize) -> Line
     if start == end {
         return Line::Show;
     }
-    let sort = sort_of(&line[start..end]);
-    if sort == SORTS {
+    let Some(sort) = sort_of(&line[start..end]) else {
         return Line::Fault(Reason::NotSort, start);
-    }
+    };
     match arguments::thing(line, whole, names, sort, end) {
-        Argument::Is(n, behind) => ended(line, whole, behind, Line::ShowOne(sort, n)),
-        Argument::Not(reason, start) => Line::Fault(reason, start),
+        Ok((n, behind)) => ended(line, whole, behind, Line::ShowOne(sort, n)),
+        Err(fault) => Line::Fault(fault.reason, fault.start),
     }
 }
 
@@ -199,15 +204,24 @@ fn help(line: &[u8], whole: bool, at: usize) -> Line
     if start == end {
         return Line::Help;
     }
-    let row = vocabulary::find(&line[start..end]);
-    if row == vocabulary::ROWS {
+    let Some(row) = vocabulary::find(&line[start..end]) else {
         return Line::Fault(Reason::UnknownWord, start);
-    }
+    };
     ended(line, whole, end, Line::HelpOn(row))
 }
 
+// Whether another thing of the sort than n has the name.
+fn is_taken(names: &[u8], sort: Sort, n: u64, name: &[u8]) -> bool
+    ensures { result ≡ is_taken names.now sort n name.now }
+{
+    match labels::find(names, sort, name) {
+        Some(holder) => holder != n,
+        None => false,
+    }
+}
+
 // The name from `at` on, for thing n of the sort.
-fn label(line: &[u8], whole: bool, names: &[u8], sort: u64, n: u64, at: usize) -> Line
+fn label(line: &[u8], whole: bool, names: &[u8], sort: Sort, n: u64, at: usize) -> Line
     ensures { result ≡ label_at line.now whole names.now sort n at }
 {
     let word = next(line, at, whole);
@@ -222,25 +236,24 @@ fn label(line: &[u8], whole: bool, names: &[u8], sort: u64, n: u64, at: usize) -
     if !labels::is_name(&line[start..end]) {
         return Line::Fault(Reason::NotName, start);
     }
-    let holder = labels::find(names, sort, &line[start..end]);
-    if (holder < 64) & (holder != n) {
+    if is_taken(names, sort, n, &line[start..end]) {
         return Line::Fault(Reason::Taken, start);
     }
     ended(line, whole, end, Line::Name(sort, n, start, end))
 }
 
 // The thing from `at` on, whose number is 0 to 63, and then its name.
-fn named(line: &[u8], whole: bool, names: &[u8], sort: u64, at: usize) -> Line
+fn named(line: &[u8], whole: bool, names: &[u8], sort: Sort, at: usize) -> Line
     ensures { result ≡ named_at line.now whole names.now sort at }
 {
     match arguments::thing(line, whole, names, sort, at) {
-        Argument::Is(n, behind) => {
+        Ok((n, behind)) => {
             if n < 64 {
                 return label(line, whole, names, sort, n, behind);
             }
             Line::Fault(Reason::NotInRange, next(line, at, whole).start)
         }
-        Argument::Not(reason, start) => Line::Fault(reason, start),
+        Err(fault) => Line::Fault(fault.reason, fault.start),
     }
 }
 
@@ -257,10 +270,9 @@ fn name(line: &[u8], whole: bool, names: &[u8], at: usize) -> Line
     if start == end {
         return Line::Fault(Reason::TooFew, start);
     }
-    let sort = sort_of(&line[start..end]);
-    if sort == SORTS {
+    let Some(sort) = sort_of(&line[start..end]) else {
         return Line::Fault(Reason::NotSort, start);
-    }
+    };
     named(line, whole, names, sort, end)
 }
 
@@ -292,5 +304,8 @@ pub fn read(line: &[u8], whole: bool, names: &[u8]) -> Line
     if start == end {
         return Line::Blank;
     }
-    begun(line, whole, names, vocabulary::find(&line[start..end]), end)
+    match vocabulary::find(&line[start..end]) {
+        Some(row) => begun(line, whole, names, row, end),
+        None => read_request(line, whole, names, false, 0),
+    }
 }

@@ -12,15 +12,15 @@ pub returns-then-start-end : goal.returns-then-start-end
 unfolding help_at
 returns-then-start-end c = next_missing _ _ _ _ c.next-word.ensures.0 _ _ c.if-word.false c.if-start-end.true
 
-pub returns-then-row-eq-ROWS : goal.returns-then-row-eq-ROWS
+pub returns-in_default : goal.returns-in_default
 unfolding help_at
-returns-then-row-eq-ROWS c =
-    help_unknown _ _ _ _ _ _ c.find-row.ensures c.if-row-eq-ROWS.true
+returns-in_default c =
+    help_unknown _ _ _ _ _ c.in_default.ensures
     ∙ next_there _ _ _ _ c.next-word.ensures.0 _ _ c.if-word.false c.if-start-end.false
 
 pub returns : goal.returns
 unfolding help_at
 returns c =
     c.ended.ensures
-    ∙ help_known _ _ _ _ _ _ c.find-row.ensures c.if-row-eq-ROWS.false
+    ∙ help_known _ _ _ _ _ _ c.in-Some.ensures
     ∙ next_there _ _ _ _ c.next-word.ensures.0 _ _ c.if-word.false c.if-start-end.false

@@ -23,10 +23,10 @@ returns-then-not-is_name c =
     label_none _ _ _ _ _ _ _ _ _ c.is_name.ensures c.if-not-is_name.true
     ∙ next_there _ _ _ _ c.next-word.ensures.0 _ _ c.if-word.false c.if-start-end.false
 
-pub returns-then-holder-n : goal.returns-then-holder-n
+pub returns-then-is_taken : goal.returns-then-is_taken
 unfolding label_at
-returns-then-holder-n c =
-    label_taken _ _ _ _ _ _ _ _ _ c.is_name.ensures c.if-not-is_name.false _ c.find-holder.ensures c.if-holder-n.true
+returns-then-is_taken c =
+    label_taken _ _ _ _ _ _ _ _ _ c.is_name.ensures c.if-not-is_name.false _ c.is_taken.ensures c.if-is_taken.true
     ∙ next_there _ _ _ _ c.next-word.ensures.0 _ _ c.if-word.false c.if-start-end.false
 
 pub returns : goal.returns
@@ -34,5 +34,5 @@ unfolding label_at
 returns c =
     let yes = c.if-not-is_name.false in
     c.ended.ensures
-    ∙ label_given _ _ _ _ _ _ _ _ _ c.is_name.ensures yes _ c.find-holder.ensures c.if-holder-n.false
+    ∙ label_given _ _ _ _ _ _ _ _ _ c.is_name.ensures yes _ c.is_taken.ensures c.if-is_taken.false
     ∙ next_there _ _ _ _ c.next-word.ensures.0 _ _ c.if-word.false c.if-start-end.false

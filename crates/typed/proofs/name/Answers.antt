@@ -17,15 +17,15 @@ returns-then-start-end c =
     ap (Fault TooFew) (starts _ _ _ _ c.next-word.ensures.0)
     ∙ next_missing _ _ _ _ c.next-word.ensures.0 _ _ c.if-word.false c.if-start-end.true
 
-pub returns-then-sort-eq-SORTS : goal.returns-then-sort-eq-SORTS
+pub returns-in_default : goal.returns-in_default
 unfolding name_at
-returns-then-sort-eq-SORTS c =
-    name_none _ _ _ _ _ _ _ c.sort_of-sort.ensures c.if-sort-eq-SORTS.true
+returns-in_default c =
+    name_none _ _ _ _ _ _ _ c.sort_of.ensures c.in_default.is
     ∙ next_there _ _ _ _ c.next-word.ensures.0 _ _ c.if-word.false c.if-start-end.false
 
 pub returns : goal.returns
 unfolding name_at
 returns c =
     c.named.ensures
-    ∙ name_sort _ _ _ _ _ _ _ c.sort_of-sort.ensures c.if-sort-eq-SORTS.false
+    ∙ name_sort _ _ _ _ _ _ _ c.sort_of.ensures _ c.in-Some.is
     ∙ next_there _ _ _ _ c.next-word.ensures.0 _ _ c.if-word.false c.if-start-end.false

@@ -6,12 +6,12 @@ use Rattle.typed.proofs.named.Goals as goal
 
 pub returns-then-n-lt64 : goal.returns-then-n-lt64
 returns-then-n-lt64 c =
-    c.label.ensures ∙ named_is _ _ _ _ _ _ c.thing.ensures _ _ c.in-Is.is c.if-n-lt64.true
+    c.label.ensures ∙ named_is _ _ _ _ _ _ c.thing.ensures _ _ c.in-Ok.is c.if-n-lt64.true
 
 pub returns-else-n-lt64 : goal.returns-else-n-lt64
 returns-else-n-lt64 c =
-    named_out _ _ _ _ _ _ c.thing.ensures _ _ c.in-Is.is (omega arith) _ c.next.ensures.0
+    named_out _ _ _ _ _ _ c.thing.ensures _ _ c.in-Ok.is (omega arith) _ c.next.ensures.0
 
-pub returns-in-Not : goal.returns-in-Not
-returns-in-Not c =
-    named_bad _ _ _ _ _ _ c.thing.ensures _ _ c.in-Not.is
+pub returns-in-Err : goal.returns-in-Err
+returns-in-Err c =
+    named_bad _ _ _ _ _ _ c.thing.ensures _ c.in-Err.is

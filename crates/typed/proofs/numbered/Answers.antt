@@ -1,17 +1,26 @@
 -- Each case of the number that was read is the case of the definition.
 use mathlib.Core.Path.{sym, ap, ◌∙◌}
+use Rattle.std.proofs.Common.{Err}
+use Rattle.decimal.specs.declared.Unread.{Unread}
 use Rattle.typed.specs.Grammar.{by_number}
 use Rattle.typed.proofs.numbered.Goals as goal
 
-pub returns-in-Is : goal.returns-in-Is
+pub returns-in-Ok : goal.returns-in-Ok
 unfolding by_number
-returns-in-Is c =
-    c.first.ensures ∙ ap (by_number _ _ _ _ _ _) (sym c.in-Is.is ∙ c.read.ensures)
+returns-in-Ok c = c.first.ensures ∙ ap (by_number _ _ _ _ _ _) c.in-Ok.ensures
 
-pub returns-in-TooLarge : goal.returns-in-TooLarge
+pub returns-in-Err-TooLarge : goal.returns-in-Err-TooLarge
 unfolding by_number
-returns-in-TooLarge c = ap (by_number _ _ _ _ _ _) (sym c.in-TooLarge.is ∙ c.read.ensures)
+returns-in-Err-TooLarge c =
+    let a = c.args in
+    let e = c.in-Err-TooLarge in
+    let kind = by_number a.line.now a.whole a.names.now a.trial a.start a.end in
+    ap (λ (u : Unread). kind (Err u)) (sym e.field-0-is) ∙ ap kind e.ensures
 
-pub returns-in-NotDecimal : goal.returns-in-NotDecimal
+pub returns-in-Err-NotDecimal : goal.returns-in-Err-NotDecimal
 unfolding by_number
-returns-in-NotDecimal c = ap (by_number _ _ _ _ _ _) (sym c.in-NotDecimal.is ∙ c.read.ensures)
+returns-in-Err-NotDecimal c =
+    let a = c.args in
+    let e = c.in-Err-NotDecimal in
+    let kind = by_number a.line.now a.whole a.names.now a.trial a.start a.end in
+    ap (λ (u : Unread). kind (Err u)) (sym e.field-0-is) ∙ ap kind e.ensures

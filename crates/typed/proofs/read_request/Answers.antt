@@ -17,16 +17,16 @@ returns-then-start-end c =
     ap (Fault TooFew) (starts _ _ _ _ c.next-word.ensures.0)
     ∙ next_missing _ _ _ _ c.next-word.ensures.0 _ _ c.if-word.false c.if-start-end.true
 
-pub returns-then-kind-eq0 : goal.returns-then-kind-eq0
+pub returns-in-None : goal.returns-in-None
 unfolding request_at
-returns-then-kind-eq0 c =
+returns-in-None c =
     c.numbered.ensures
-    ∙ kind_number _ _ _ _ _ _ _ _ _ c.find.ensures c.kind_of-kind.ensures c.if-kind-eq0.true
+    ∙ kind_number _ _ _ _ _ _ _ c.in-None.ensures
     ∙ next_there _ _ _ _ c.next-word.ensures.0 _ _ c.if-word.false c.if-start-end.false
 
-pub returns : goal.returns
+pub returns-in-Some : goal.returns-in-Some
 unfolding request_at
-returns c =
+returns-in-Some c =
     c.first.ensures
-    ∙ kind_known _ _ _ _ _ _ _ _ _ c.find.ensures c.kind_of-kind.ensures c.if-kind-eq0.false
+    ∙ kind_known _ _ _ _ _ _ _ _ c.in-Some.ensures
     ∙ next_there _ _ _ _ c.next-word.ensures.0 _ _ c.if-word.false c.if-start-end.false

@@ -12,21 +12,21 @@ pub returns-then-start-end : goal.returns-then-start-end
 unfolding show_at
 returns-then-start-end c = next_missing _ _ _ _ c.next-word.ensures.0 _ _ c.if-word.false c.if-start-end.true
 
-pub returns-then-sort-eq-SORTS : goal.returns-then-sort-eq-SORTS
+pub returns-in_default : goal.returns-in_default
 unfolding show_at
-returns-then-sort-eq-SORTS c =
-    show_none _ _ _ _ _ _ _ c.sort_of-sort.ensures c.if-sort-eq-SORTS.true
+returns-in_default c =
+    show_none _ _ _ _ _ _ _ c.sort_of.ensures c.in_default.is
     ∙ next_there _ _ _ _ c.next-word.ensures.0 _ _ c.if-word.false c.if-start-end.false
 
-pub returns-in-Is : goal.returns-in-Is
+pub returns-in-Ok : goal.returns-in-Ok
 unfolding show_at
-returns-in-Is c =
+returns-in-Ok c =
     c.ended.ensures
-    ∙ show_one _ _ _ _ _ _ _ c.sort_of-sort.ensures c.if-sort-eq-SORTS.false _ c.thing.ensures _ _ c.in-Is.is
+    ∙ show_one _ _ _ _ _ _ _ c.sort_of.ensures _ c.in-Some.is _ c.thing.ensures _ _ c.in-Ok.is
     ∙ next_there _ _ _ _ c.next-word.ensures.0 _ _ c.if-word.false c.if-start-end.false
 
-pub returns-in-Not : goal.returns-in-Not
+pub returns-in-Err : goal.returns-in-Err
 unfolding show_at
-returns-in-Not c =
-    show_bad _ _ _ _ _ _ _ c.sort_of-sort.ensures c.if-sort-eq-SORTS.false _ c.thing.ensures _ _ c.in-Not.is
+returns-in-Err c =
+    show_bad _ _ _ _ _ _ _ c.sort_of.ensures _ c.in-Some.is _ c.thing.ensures _ c.in-Err.is
     ∙ next_there _ _ _ _ c.next-word.ensures.0 _ _ c.if-word.false c.if-start-end.false

@@ -1,7 +1,7 @@
 -- The word is cut, missing, or a number.
 use mathlib.Core.Path.{ap, ◌∙◌}
 use Rattle.typed.specs.Arguments.{placed_at}
-use Rattle.typed.specs.declared.arguments.Value.{Value}
+use Rattle.typed.specs.Arguments.{Value}
 use Rattle.typed.proofs.ArgumentLaws.{number_cut, number_missing, number_there}
 use Rattle.typed.proofs.arguments.number.Goals as goal
 

@@ -1,7 +1,7 @@
 -- The word is cut, missing, or stands for something.
 use mathlib.Core.Path.{ap, ◌∙◌}
 use Rattle.typed.specs.Arguments.{placed_at}
-use Rattle.typed.specs.declared.arguments.Value.{Value}
+use Rattle.typed.specs.Arguments.{Value}
 use Rattle.typed.proofs.ArgumentLaws.{thing_cut, thing_missing, thing_there}
 use Rattle.typed.proofs.arguments.thing.Goals as goal
 

@@ -1,7 +1,7 @@
 -- The code's table is the definition's, row by row.
 use native.Mathlib.Omega.{arith}
 use Rattle.typed.proofs.ArgumentLaws.{listed_want, other_want}
-use Rattle.typed.proofs.arguments.row_of.Goals as goal
+use Rattle.typed.proofs.arguments.wanted.Goals as goal
 
 pub returns-then-i-lt-ROWS : goal.returns-then-i-lt-ROWS
 returns-then-i-lt-ROWS c = listed_want c.args.kind _ (omega arith)
