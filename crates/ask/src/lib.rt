@@ -8,6 +8,8 @@ ghost use Rattle.rules.specs.Requests.{row_of, fits, is_open};
 ghost use Rattle.book.specs.Slice.{tables};
 ghost use Rattle.ask.specs.Arguments.{need_of, asked, fault_of};
 
+use book::Table;
+
 // What an argument must be.
 #[derive(Clone, Copy, PartialEq, Eq, Debug)]
 pub enum Argument {
@@ -79,7 +81,7 @@ fn is_defined(book: &book::Words, things: u64, v: u64) -> bool
 fn is_open_order(book: &book::Words, v: u64) -> bool
     ensures { result ≡ (ltb v 64 && is_open (tables book.now) v) }
 {
-    v < 64 && book::row(book, book::ORDERS, v) != 0
+    v < 64 && book::row(book, Table::Orders, v) != 0
 }
 
 // Whether v is a nonempty mask of defined tasks.

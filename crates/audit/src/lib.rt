@@ -2,14 +2,15 @@
 #![tactic(auto)]
 
 ghost use Rattle.std.specs.Prelude.{◌≡◌, false, not, ℕ, ◌<◌};
-ghost use Rattle.rules.specs.Book.{table_count};
 ghost use Rattle.rules.specs.Audit.{apart, kept_at, broken};
+ghost use Rattle.book.specs.Tables.{number};
 ghost use Rattle.book.specs.Slice.{tables, WellFormed};
 ghost use Rattle.audit.specs.Guarantee.{Finds};
 ghost use Rattle.audit.specs.Asked.{asked_by};
 ghost use Rattle.audit.specs.Broken.{IsFirstBroken};
 
 use answers::{Fault, Finding};
+use book::Table;
 use owners::Owner;
 
 // The first number that is no rule.
@@ -28,9 +29,9 @@ fn asked(book: &book::Words, rule: u8) -> u64
 }
 
 // Rules 4 and 5 of task x: its row has none of its group, which is made only where the row has somebody.
-fn is_apart_from<F: FnOnce(u64) -> u64>(book: &book::Words, table: u64, group: F, x: u64) -> bool
-    requires { (table < table_count) × (x < 64) × F.pre group x }
-    ensures { (groups : ℕ → ℕ) → ((m : ℕ) → F.post group x m → m ≡ groups x) → result ≡ apart ((tables book.now).row table) groups x }
+fn is_apart_from<F: FnOnce(u64) -> u64>(book: &book::Words, table: Table, group: F, x: u64) -> bool
+    requires { (x < 64) × F.pre group x }
+    ensures { (groups : ℕ → ℕ) → ((m : ℕ) → F.post group x m → m ≡ groups x) → result ≡ apart ((tables book.now).row (number table)) groups x }
 {
     if book::row(book, table, x) == 0 {
         return true;
@@ -56,9 +57,9 @@ fn is_exclusion_kept(book: &book::Words, rule: u8, x: u64) -> bool
     ensures { result ≡ kept_at (tables book.now) rule x }
 {
     match rule {
-        3 => table_rules::is_apart(book, book::SME, book::row(book, book::DME, x), x),
-        4 => is_apart_from(book, book::SME, |t| trade::role_group(book, t), x),
-        _ => is_apart_from(book, book::DME, |t| trade::subject_group(book, t), x),
+        3 => table_rules::is_apart(book, Table::Sme, book::row(book, Table::Dme, x), x),
+        4 => is_apart_from(book, Table::Sme, |t| trade::role_group(book, t), x),
+        _ => is_apart_from(book, Table::Dme, |t| trade::subject_group(book, t), x),
     }
 }
 

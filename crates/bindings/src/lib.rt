@@ -7,6 +7,7 @@ ghost use Rattle.book.specs.Slice.{tables};
 ghost use Rattle.answers.specs.Answers.{said};
 
 use answers::{Answer, Refusal};
+use book::Table;
 
 // Kind 6: 20, 22, 27.
 pub fn rb_conflict(book: &book::Words, a: u64, b: u64) -> Answer
@@ -16,12 +17,12 @@ pub fn rb_conflict(book: &book::Words, a: u64, b: u64) -> Answer
     if a == b {
         return Err(Refusal::SelfConstraint);
     }
-    if book::is_in_row(book, book::SME, a, b) {
+    if book::is_in_row(book, Table::Sme, a, b) {
         return Err(Refusal::AlreadySme);
     }
     let xs = trade::role_group(book, a);
     let ys = trade::role_group(book, b);
-    match search::first_pair(book, book::SME, xs, ys) {
+    match search::first_pair(book, Table::Sme, xs, ys) {
         Some((x, y)) => Err(Refusal::SmeBetween(x, y)),
         None => Ok(()),
     }
@@ -36,10 +37,10 @@ fn groups_conflict(book: &book::Words, a: u64, b: u64) -> Answer
     let ys = trade::subject_group(book, b);
     let wide_xs = trade::bound_with(book, xs);
     let wide_ys = trade::bound_with(book, ys);
-    if let Some((x, y)) = search::first_pair(book, book::SME, wide_xs, wide_ys) {
+    if let Some((x, y)) = search::first_pair(book, Table::Sme, wide_xs, wide_ys) {
         return Err(Refusal::SmeBetween(x, y));
     }
-    if let Some((x, y)) = search::first_pair(book, book::DME, xs, ys) {
+    if let Some((x, y)) = search::first_pair(book, Table::Dme, xs, ys) {
         return Err(Refusal::DmeBetween(x, y));
     }
     Ok(())
@@ -53,10 +54,10 @@ pub fn sb_conflict(book: &book::Words, a: u64, b: u64) -> Answer
     if a == b {
         return Err(Refusal::SelfConstraint);
     }
-    if book::is_in_row(book, book::DME, a, b) {
+    if book::is_in_row(book, Table::Dme, a, b) {
         return Err(Refusal::AlreadyDme);
     }
-    if book::is_in_row(book, book::SME, a, b) {
+    if book::is_in_row(book, Table::Sme, a, b) {
         return Err(Refusal::AlreadySme);
     }
     groups_conflict(book, a, b)

@@ -4,7 +4,8 @@
 
 ghost use Rattle.std.specs.Prelude.{◌≡◌, ◌+◌, ◌*◌, ◌≤◌, ◌<◌};
 ghost use Rattle.sets.specs.Mask.{bit};
-ghost use Rattle.rules.specs.Book.{head_words, table_count, table_at, cells_at, cell_base, cell_of, role_in, subject_in};
+ghost use Rattle.rules.specs.Book.{head_words, table_at, cells_at, cell_base, cell_of, role_in, subject_in};
+ghost use Rattle.book.specs.Tables.{number};
 ghost use Rattle.book.specs.Slice.{tables, Full, Became, with_head, with_row, with_cell, with_member, without_member};
 
 // How many words a book has.
@@ -32,34 +33,43 @@ pub const ROLES: u64 = 1;
 
 pub const SUBJECTS: u64 = 2;
 
-// The nine tables: four of task pairs, each with the row of a task ..
-pub const SME: u64 = 0;
+// The nine tables of document 01, in its order: that is how they are numbered, and where they stand.
+#[derive(Clone, Copy, PartialEq, Eq)]
+pub enum Table {
+    // Four of task pairs, each with the row of a task ..
+    Sme,
+    Dme,
+    Rb,
+    Sb,
+    // .. the direct juniors and the tasks of a role ..
+    Juniors,
+    TasksOf,
+    // .. the roles of a subject and its active role, plus 1 ..
+    RolesOf,
+    Active,
+    // .. and the tasks of an order.
+    Orders,
+}
 
-pub const DME: u64 = 1;
-
-pub const RB: u64 = 2;
-
-pub const SB: u64 = 3;
-
-// .. the direct juniors and the tasks of a role ..
-pub const JUNIORS: u64 = 4;
-
-pub const TASKS_OF: u64 = 5;
-
-// .. the roles of a subject and its active role, plus 1 ..
-pub const ROLES_OF: u64 = 6;
-
-pub const ACTIVE: u64 = 7;
-
-// .. and the tasks of an order.
-pub const ORDERS: u64 = 8;
+// All nine in that order: table k at place k.
+pub const TABLES: [Table; 9] = [
+    Table::Sme,
+    Table::Dme,
+    Table::Rb,
+    Table::Sb,
+    Table::Juniors,
+    Table::TasksOf,
+    Table::RolesOf,
+    Table::Active,
+    Table::Orders,
+];
 
 // Where row r of a table stands.
-pub fn row_at(table: u64, r: u64) -> u64
-    requires { (table < table_count) × (r < 64) }
-    ensures { result ≡ table_at table + r }
+pub fn row_at(table: Table, r: u64) -> u64
+    requires { (r < 64) }
+    ensures { result ≡ table_at (number table) + r }
 {
-    HEAD + 64 * table + r
+    HEAD + 64 * table as u64 + r
 }
 
 // Where the cell of an order and a task stands.
@@ -79,17 +89,17 @@ pub fn head(book: &Words, i: u64) -> u64
 }
 
 // Row r of a table.
-pub fn row(book: &Words, table: u64, r: u64) -> u64
-    requires { (table < table_count) × (r < 64) }
-    ensures { result ≡ (tables book.now).row table r }
+pub fn row(book: &Words, table: Table, r: u64) -> u64
+    requires { (r < 64) }
+    ensures { result ≡ (tables book.now).row (number table) r }
 {
     book[row_at(table, r) as usize]
 }
 
 // Whether number i is in row r of a table.
-pub fn is_in_row(book: &Words, table: u64, r: u64, i: u64) -> bool
-    requires { (table < table_count) × (r < 64) × (i < 64) }
-    ensures { result ≡ bit ((tables book.now).row table r) i }
+pub fn is_in_row(book: &Words, table: Table, r: u64, i: u64) -> bool
+    requires { (r < 64) × (i < 64) }
+    ensures { result ≡ bit ((tables book.now).row (number table) r) i }
 {
     sets::has(row(book, table, r), i)
 }
@@ -133,9 +143,9 @@ pub fn set_head(book: &mut Words, i: u64, v: u64)
 }
 
 // Row r of a table is v.
-pub fn set_row(book: &mut Words, table: u64, r: u64, v: u64)
-    requires { (table < table_count) × (r < 64) }
-    ensures { Became book.old book.new (with_row table r v) }
+pub fn set_row(book: &mut Words, table: Table, r: u64, v: u64)
+    requires { (r < 64) }
+    ensures { Became book.old book.new (with_row (number table) r v) }
 {
     book[row_at(table, r) as usize] = v;
 }
@@ -149,18 +159,18 @@ pub fn set_cell(book: &mut Words, order: u64, task: u64, v: u64)
 }
 
 // Number i joins row r of a table.
-pub fn add_to_row(book: &mut Words, table: u64, r: u64, i: u64)
-    requires { (table < table_count) × (r < 64) × (i < 64) }
-    ensures { Became book.old book.new (with_member table r i) }
+pub fn add_to_row(book: &mut Words, table: Table, r: u64, i: u64)
+    requires { (r < 64) × (i < 64) }
+    ensures { Became book.old book.new (with_member (number table) r i) }
 {
     let mask = row(book, table, r);
     set_row(book, table, r, sets::add(mask, i));
 }
 
 // Number i leaves row r of a table.
-pub fn take_from_row(book: &mut Words, table: u64, r: u64, i: u64)
-    requires { (table < table_count) × (r < 64) × (i < 64) }
-    ensures { Became book.old book.new (without_member table r i) }
+pub fn take_from_row(book: &mut Words, table: Table, r: u64, i: u64)
+    requires { (r < 64) × (i < 64) }
+    ensures { Became book.old book.new (without_member (number table) r i) }
 {
     let mask = row(book, table, r);
     set_row(book, table, r, sets::remove(mask, i));

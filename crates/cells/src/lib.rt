@@ -6,12 +6,14 @@ ghost use Rattle.std.specs.Prelude.{◌≡◌, true, ◌≤◌, ◌<◌};
 ghost use Rattle.rules.specs.Requests.{set_order, stamped_cell};
 ghost use Rattle.book.specs.Slice.{Became};
 
+use book::Table;
+
 // The order's task mask is stored, and all its 64 cells become 0.
 pub fn set_order(book: &mut book::Words, order: u64, tasks: u64)
     requires { (order < 64) }
     ensures { Became book.old book.new (λ d. set_order d order tasks) }
 {
-    book::set_row(book, book::ORDERS, order, tasks);
+    book::set_row(book, Table::Orders, order, tasks);
     for t in 0..64 {
         book::set_cell(book, order, t, 0);
     }

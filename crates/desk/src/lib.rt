@@ -3,8 +3,8 @@
 #![tactic(auto)]
 
 ghost use Rattle.std.specs.Prelude.{◌≡◌, ◌<◌};
-ghost use Rattle.rules.specs.Book.{table_count};
 ghost use Rattle.rules.specs.Requests.{row_of};
+ghost use Rattle.book.specs.Tables.{number};
 ghost use Rattle.book.specs.Slice.{tables, WellFormed};
 ghost use Rattle.ask.specs.Arguments.{fault_of};
 ghost use Rattle.deeds.specs.Outcome.{Settled};
@@ -12,14 +12,23 @@ ghost use Rattle.desk.specs.Guarantee.{ask, Answered};
 ghost use Rattle.desk.specs.Tables.{staff_table};
 
 use answers::{Answer, Refusal};
+use book::Table;
 
 // The tables that kinds 8, 9, 10 add to and 15, 16, 17 take from.
-const STAFF: [u64; 3] = [book::TASKS_OF, book::JUNIORS, book::ROLES_OF];
+const STAFF: [Table; 3] = [Table::TasksOf, Table::Juniors, Table::RolesOf];
 
-// The table of a kind, by its place among the three.
-fn staff_table(place: u64) -> u64
+// The table of kinds 4 to 7 and 18 to 21, by the kind's place among the four: they are the first four of the nine.
+fn pair_table(place: u64) -> Table
+    requires { place < 4 }
+    ensures { number result ≡ place }
+{
+    book::TABLES[place as usize]
+}
+
+// The table of one of the other six kinds, by its place among the three.
+fn staff_table(place: u64) -> Table
     requires { place < 3 }
-    ensures { (result ≡ staff_table place) × (result < table_count) }
+    ensures { number result ≡ staff_table place }
 {
     STAFF[place as usize]
 }
@@ -32,14 +41,14 @@ fn carry_out(book: &mut book::Words, kind: u64, a: u64, b: u64, c: u64) -> Answe
 {
     match kind {
         1..=3 => unopposed::define(book, kind - 1, a),
-        4..=7 => pairs::relate(book, kind - 4, a, b),
+        4..=7 => pairs::relate(book, pair_table(kind - 4), a, b),
         8..=10 => staff::assign(book, staff_table(kind - 8), a, b),
         11 => unopposed::activate(book, a, b),
         12 => orders::open_order(book, a, c),
         13 => orders::allocate(book, a, b, c),
         14 => orders::close_order(book, a),
         15..=17 => unopposed::take_back(book, staff_table(kind - 15), a, b),
-        18..=21 => pairs::unrelate(book, kind - 18, a, b),
+        18..=21 => pairs::unrelate(book, pair_table(kind - 18), a, b),
         _ => Err(Refusal::UnknownKind),
     }
 }

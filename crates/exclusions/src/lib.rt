@@ -7,6 +7,7 @@ ghost use Rattle.book.specs.Slice.{tables, WellFormed};
 ghost use Rattle.answers.specs.Answers.{said};
 
 use answers::{Answer, Refusal};
+use book::Table;
 use owners::Owner;
 
 // 25 and 26: a role, then a subject, owns both tasks.
@@ -33,7 +34,7 @@ pub fn sme_conflict(book: &book::Words, a: u64, b: u64) -> Answer
     if a == b {
         return Err(Refusal::SelfConstraint);
     }
-    if book::is_in_row(book, book::DME, a, b) {
+    if book::is_in_row(book, Table::Dme, a, b) {
         return Err(Refusal::AlreadyDme);
     }
     if sets::has(trade::subject_group(book, a), b) {
@@ -53,7 +54,7 @@ pub fn dme_conflict(book: &book::Words, a: u64, b: u64) -> Answer
     if a == b {
         return Err(Refusal::SelfConstraint);
     }
-    if book::is_in_row(book, book::SME, a, b) {
+    if book::is_in_row(book, Table::Sme, a, b) {
         return Err(Refusal::AlreadySme);
     }
     if sets::has(trade::subject_group(book, a), b) {

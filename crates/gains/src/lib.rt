@@ -11,6 +11,7 @@ ghost use Rattle.gains.specs.Gains.{owners_conflict};
 ghost use Rattle.answers.specs.Answers.{said};
 
 use answers::{Answer, Refusal};
+use book::Table;
 use owners::Owner;
 
 // What a role brings: all tasks that it owns.
@@ -70,9 +71,9 @@ pub fn own_conflict(book: &book::Words, a: u64, b: u64) -> Answer
     requires { (a < 64) × (b < 64) }
     ensures { said result ≡ first_of role_conflicts (tables book.now) a b }
 {
-    let owned = trade::owned_tasks(book, book::row(book, book::ROLES_OF, b));
+    let owned = trade::owned_tasks(book, book::row(book, Table::RolesOf, b));
     let gain = gained_role(book, a);
-    let tasks = search::meeting(book, book::SME, owned, gain);
+    let tasks = search::meeting(book, Table::Sme, owned, gain);
     if tasks != 0 {
         return Err(Refusal::RoleAssignment(b, tasks));
     }

@@ -5,17 +5,19 @@
 
 ghost use Rattle.std.specs.Prelude.{◌≡◌, false, not, ℕ, ◌≤◌, ◌<◌};
 ghost use Rattle.sets.specs.Search.{all};
-ghost use Rattle.rules.specs.Book.{table_count};
 ghost use Rattle.rules.specs.Audit.{pair_free, broken};
+ghost use Rattle.book.specs.Tables.{number};
 ghost use Rattle.book.specs.Slice.{words, tables, WellFormed};
 ghost use Rattle.hand_rules.specs.Hands.{Opens, noted, NotedIn, Gathered, OnlyDefined, dme_apart_in};
 ghost use Rattle.hand_rules.specs.Hands.{from_lowest, alike, same_hand, together_in, bound_together};
+
+use book::Table;
 
 // The open orders, those that have a task, as a set.
 fn open_orders(book: &book::Words) -> u64
     ensures { Opens (tables book.now) result }
 {
-    search::meeting(book, book::ORDERS, !0, !0)
+    search::meeting(book, Table::Orders, !0, !0)
 }
 
 // Task t is noted as held by the subject of its cell, which is given plus 1; 0 is nobody.
@@ -35,15 +37,15 @@ fn note_order(book: &book::Words, order: u64, held: &mut [u64; 64])
     requires { WellFormed book.now × (order < 64) }
     ensures { NotedIn (tables book.now) order held.old held.new }
 {
-    for t in sets::each(book::row(book, book::ORDERS, order)) {
+    for t in sets::each(book::row(book, Table::Orders, order)) {
         note(held, book::subject_in(book::cell(book, order, t)), t);
     }
 }
 
 // Whether what each subject is noted with holds no pair of the table. Who is undefined is noted with nothing.
-fn are_free(book: &book::Words, table: u64, held: &[u64; 64]) -> bool
-    requires { (table < table_count) × OnlyDefined (tables book.now) held.now }
-    ensures { result ≡ all 64 (λ s. pair_free ((tables book.now).row table) (words held.now s)) }
+fn are_free(book: &book::Words, table: Table, held: &[u64; 64]) -> bool
+    requires { OnlyDefined (tables book.now) held.now }
+    ensures { result ≡ all 64 (λ s. pair_free ((tables book.now).row (number table)) (words held.now s)) }
 {
     for s in sets::each(book::head(book, book::SUBJECTS)) {
         if !search::is_pair_free(book, table, held[s as usize]) {
@@ -68,13 +70,13 @@ fn is_dme_apart_in(book: &book::Words, order: u64, anywhere: &mut [u64; 64]) -> 
     requires { WellFormed book.now × (order < 64) }
     ensures { (result ≡ dme_apart_in (tables book.now) order) × NotedIn (tables book.now) order anywhere.old anywhere.new }
 {
-    if book::row(book, book::ORDERS, order) == 0 {
+    if book::row(book, Table::Orders, order) == 0 {
         return true;
     }
     let mut held = [0u64; 64];
     note_order(book, order, &mut held);
     gather(&held, anywhere);
-    are_free(book, book::DME, &held)
+    are_free(book, Table::Dme, &held)
 }
 
 // Rule 9: DME in each order by itself, then SME of what is held in all of them together.
@@ -88,7 +90,7 @@ pub fn are_apart(book: &book::Words) -> bool
             return false;
         }
     }
-    are_free(book, book::SME, &anywhere)
+    are_free(book, Table::Sme, &anywhere)
 }
 
 // The set, where u is its lowest member; else nothing.
@@ -125,7 +127,7 @@ fn is_together_in(book: &book::Words, subjects: u64, roles: u64, u: u64, order: 
     requires { (u < 64) × (order < 64) }
     ensures { result ≡ together_in (tables book.now) subjects roles u order }
 {
-    let tasks = book::row(book, book::ORDERS, order);
+    let tasks = book::row(book, Table::Orders, order);
     if !sets::has(tasks, u) {
         return true;
     }
@@ -156,7 +158,7 @@ fn is_bound_together(book: &book::Words, opened: u64, u: u64) -> bool
     requires { Opens (tables book.now) opened × (u < 64) }
     ensures { result ≡ bound_together (tables book.now) u }
 {
-    if trade::mixed_row(book, book::SB, book::RB, u) == 0 {
+    if trade::mixed_row(book, Table::Sb, Table::Rb, u) == 0 {
         return true;
     }
     let subjects = trade::subject_group(book, u);

@@ -9,12 +9,14 @@ ghost use Rattle.rules.specs.Requests.{role_hand, subject_hand};
 ghost use Rattle.rules.specs.Numbers.{active_owned, in_hand, held_by};
 ghost use Rattle.book.specs.Slice.{tables};
 
+use book::Table;
+
 // The tasks of the order in the role group of a task.
 pub fn role_hand(book: &book::Words, task: u64, order: u64) -> u64
     requires { (task < 64) × (order < 64) }
     ensures { result ≡ role_hand (tables book.now) task order }
 {
-    trade::role_group(book, task) & book::row(book, book::ORDERS, order)
+    trade::role_group(book, task) & book::row(book, Table::Orders, order)
 }
 
 // The tasks of the order in the subject group of a task.
@@ -23,7 +25,7 @@ pub fn subject_hand(book: &book::Words, task: u64, order: u64) -> u64
     requires { (task < 64) × (order < 64) }
     ensures { result ≡ subject_hand (tables book.now) task order }
 {
-    trade::subject_group(book, task) & book::row(book, book::ORDERS, order)
+    trade::subject_group(book, task) & book::row(book, Table::Orders, order)
 }
 
 // Task t alone, where its cell has the subject; else nothing.
@@ -43,7 +45,7 @@ pub fn held_among(book: &book::Words, order: u64, subject: u64, those: u64) -> u
     requires { (order < 64) × (subject < 64) }
     ensures { result ≡ bit_and (held_by (tables book.now) order subject) those }
 {
-    let asked = book::row(book, book::ORDERS, order) & those;
+    let asked = book::row(book, Table::Orders, order) & those;
     let mut held = 0;
     for t in sets::each(asked) {
         held |= held_row(book, order, subject, t);
@@ -56,7 +58,7 @@ pub fn active_owned(book: &book::Words, subject: u64) -> bool
     requires { (subject < 64) }
     ensures { result ≡ active_owned (tables book.now) subject }
 {
-    let e = book::row(book, book::ACTIVE, subject);
+    let e = book::row(book, Table::Active, subject);
     match e {
         0 => false,
         1..=64 => trade::owns_role(book, subject, e - 1),

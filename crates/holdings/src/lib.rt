@@ -9,19 +9,20 @@ ghost use Rattle.book.specs.Slice.{tables, WellFormed};
 ghost use Rattle.answers.specs.Answers.{said};
 
 use answers::{Answer, Refusal};
+use book::Table;
 
 // 33, between what c holds in each order and the tasks that c would get. The tasks that are SME to one of these are found once.
 fn sme_held(book: &book::Words, c: u64, hand: u64) -> Answer
     requires { WellFormed book.now × (c < 64) }
     ensures { said result ≡ given_lowest_pair 33 (is_open (tables book.now)) (holds SME (tables book.now) c hand) accepted }
 {
-    let excluded = search::meeting(book, book::SME, book::head(book, book::TASKS), hand);
+    let excluded = search::meeting(book, Table::Sme, book::head(book, book::TASKS), hand);
     if excluded == 0 {
         return Ok(());
     }
     for order in 0..64 {
         let held = hands::held_among(book, order, c, excluded);
-        if let Some((x, y)) = search::first_pair(book, book::SME, held, hand) {
+        if let Some((x, y)) = search::first_pair(book, Table::Sme, held, hand) {
             return Err(Refusal::HoldsSme(x, y, order));
         }
     }
@@ -34,7 +35,7 @@ fn dme_held(book: &book::Words, b: u64, c: u64, hand: u64) -> Answer
     ensures { said result ≡ given_pair_in 34 (holds DME (tables book.now) c hand b) b accepted }
 {
     let held = hands::held_among(book, b, c, !0);
-    match search::first_pair(book, book::DME, held, hand) {
+    match search::first_pair(book, Table::Dme, held, hand) {
         Some((x, y)) => Err(Refusal::HoldsDme(x, y, b)),
         None => Ok(()),
     }

@@ -12,6 +12,7 @@ ghost use Rattle.answers.specs.Answers.{said};
 ghost use Rattle.deeds.specs.Outcome.{decide, Settled};
 
 use answers::{Answer, Refusal};
+use book::Table;
 use cells::Hand;
 
 // Kind 12: open order a with the task mask c. 5 where it is open already.
@@ -19,7 +20,7 @@ pub fn open_order(book: &mut book::Words, a: u64, c: u64) -> Answer
     requires { (a < 64) }
     ensures { Settled book.old book.new open_order a 0 c result }
 {
-    if book::row(book, book::ORDERS, a) != 0 {
+    if book::row(book, Table::Orders, a) != 0 {
         return Err(Refusal::AlreadySet);
     }
     cells::set_order(book, a, c);
@@ -70,13 +71,13 @@ fn allocate_refusal(book: &book::Words, a: u64, b: u64, c: u64) -> Answer
     requires { (a < 64) × (b < 64) × (c < 64) }
     ensures { said result ≡ allocate_refusal (tables book.now) a b c }
 {
-    if !book::is_in_row(book, book::ORDERS, b, a) {
+    if !book::is_in_row(book, Table::Orders, b, a) {
         return Err(Refusal::BadArgument(1));
     }
     if !hands::active_owned(book, c) {
         return Err(Refusal::NotOwned);
     }
-    cell_refusal(book, a, b, book::row(book, book::ACTIVE, c))
+    cell_refusal(book, a, b, book::row(book, Table::Active, c))
 }
 
 // Kind 13: the answer, on the book as it stands.
@@ -98,7 +99,7 @@ pub fn allocate(book: &mut book::Words, a: u64, b: u64, c: u64) -> Answer
         order: b,
         wide: hands::role_hand(book, a, b),
         narrow: hands::subject_hand(book, a, b),
-        role: book::row(book, book::ACTIVE, c),
+        role: book::row(book, Table::Active, c),
         subject: c,
     };
     hand.stamp(book);

@@ -7,6 +7,8 @@ ghost use Rattle.book.specs.Slice.{tables, WellFormed};
 ghost use Rattle.owners.specs.Owners.{start_of, clashes_below, found_clash};
 ghost use Rattle.owners.specs.Rising.{above, Raised, owners_of, starters, starts_in_both};
 
+use book::Table;
+
 // Whether numbers 0 to 63 stand for roles or for subjects.
 #[derive(Clone, Copy)]
 pub enum Owner {
@@ -21,7 +23,7 @@ pub fn start_of(book: &book::Words, owner: Owner, o: u64) -> u64
 {
     match owner {
         Owner::Role => sets::alone(o),
-        Owner::Subject => book::row(book, book::ROLES_OF, o),
+        Owner::Subject => book::row(book, Table::RolesOf, o),
     }
 }
 
@@ -32,7 +34,7 @@ fn raised(book: &book::Words, set: u64) -> u64
 {
     let mut all = set;
     for r in sets::each(book::head(book, book::ROLES) & !set) {
-        all |= search::meeting_row(book, book::JUNIORS, all, r);
+        all |= search::meeting_row(book, Table::Juniors, all, r);
     }
     all
 }
@@ -56,7 +58,7 @@ pub fn owners_of(book: &book::Words, tasks: u64) -> u64
 {
     above(
         book,
-        search::meeting(book, book::TASKS_OF, book::head(book, book::ROLES), tasks),
+        search::meeting(book, Table::TasksOf, book::head(book, book::ROLES), tasks),
     )
 }
 
@@ -67,7 +69,7 @@ fn starters(book: &book::Words, owner: Owner, set: u64) -> u64
     match owner {
         Owner::Role => set,
         Owner::Subject => {
-            search::meeting(book, book::ROLES_OF, book::head(book, book::SUBJECTS), set)
+            search::meeting(book, Table::RolesOf, book::head(book, book::SUBJECTS), set)
         }
     }
 }
@@ -84,7 +86,7 @@ pub fn first_clash(book: &book::Words, owner: Owner, b: u64, gain: u64) -> Optio
     requires { WellFormed book.now × (b < 64) }
     ensures { result ≡ found_clash (clashes_below (tables book.now) owner b gain) }
 {
-    let all_clashing = search::meeting(book, book::SME, book::head(book, book::TASKS), gain);
+    let all_clashing = search::meeting(book, Table::Sme, book::head(book, book::TASKS), gain);
     if all_clashing == 0 {
         return None;
     }

@@ -5,15 +5,16 @@
 mod back;
 
 ghost use Rattle.std.specs.Prelude.{◌≡◌, ◌<◌};
-ghost use Rattle.rules.specs.Book.{table_count};
 ghost use Rattle.rules.specs.Requests.{relate};
 ghost use Rattle.rules.specs.Numbers.{open_refusal, state_refusal, pair_conflicts, first_of};
+ghost use Rattle.book.specs.Tables.{number};
 ghost use Rattle.book.specs.Slice.{tables, WellFormed};
 ghost use Rattle.answers.specs.Answers.{said};
 ghost use Rattle.deeds.specs.Outcome.{decide, Settled};
 
 use answers::{Answer, Refusal};
 pub use back::unrelate;
+use book::Table;
 
 // 7 while an order is open.
 fn open_refusal(book: &book::Words) -> Answer
@@ -26,9 +27,9 @@ fn open_refusal(book: &book::Words) -> Answer
 }
 
 // 5 where the pair is set already, 7 while an order is open.
-fn pair_refusal(book: &book::Words, table: u64, a: u64, b: u64) -> Answer
-    requires { (table < table_count) × (a < 64) × (b < 64) }
-    ensures { said result ≡ state_refusal (tables book.now) (relate table) a b 0 }
+fn pair_refusal(book: &book::Words, table: Table, a: u64, b: u64) -> Answer
+    requires { (a < 64) × (b < 64) }
+    ensures { said result ≡ state_refusal (tables book.now) (relate (number table)) a b 0 }
 {
     if book::is_in_row(book, table, a, b) {
         return Err(Refusal::AlreadySet);
@@ -37,33 +38,32 @@ fn pair_refusal(book: &book::Words, table: u64, a: u64, b: u64) -> Answer
 }
 
 // What conflicts with the new pair, by the table. A table that has no pairs is refused.
-fn pair_conflict(book: &book::Words, table: u64, a: u64, b: u64) -> Answer
+fn pair_conflict(book: &book::Words, table: Table, a: u64, b: u64) -> Answer
     requires { WellFormed book.now × (a < 64) × (b < 64) }
-    ensures { said result ≡ first_of (pair_conflicts table) (tables book.now) a b }
+    ensures { said result ≡ first_of (pair_conflicts (number table)) (tables book.now) a b }
 {
-    // Stays: a table is its number, since that is where its rows lie among the words; an enum would be turned into it at each use.
     match table {
-        book::SME => exclusions::sme_conflict(book, a, b),
-        book::DME => exclusions::dme_conflict(book, a, b),
-        book::RB => bindings::rb_conflict(book, a, b),
-        book::SB => bindings::sb_conflict(book, a, b),
+        Table::Sme => exclusions::sme_conflict(book, a, b),
+        Table::Dme => exclusions::dme_conflict(book, a, b),
+        Table::Rb => bindings::rb_conflict(book, a, b),
+        Table::Sb => bindings::sb_conflict(book, a, b),
         _ => Err(Refusal::UnknownKind),
     }
 }
 
 // The answer, on the book as it stands.
-fn judge_pair(book: &book::Words, table: u64, a: u64, b: u64) -> Answer
-    requires { WellFormed book.now × (table < table_count) × (a < 64) × (b < 64) }
-    ensures { said result ≡ decide (tables book.now) (relate table) a b 0 }
+fn judge_pair(book: &book::Words, table: Table, a: u64, b: u64) -> Answer
+    requires { WellFormed book.now × (a < 64) × (b < 64) }
+    ensures { said result ≡ decide (tables book.now) (relate (number table)) a b 0 }
 {
     pair_refusal(book, table, a, b)?;
     pair_conflict(book, table, a, b)
 }
 
 // Kinds 4 to 7: both bits of the pair, where nothing stands in the way.
-pub fn relate(book: &mut book::Words, table: u64, a: u64, b: u64) -> Answer
-    requires { WellFormed book.old × (table < table_count) × (a < 64) × (b < 64) }
-    ensures { Settled book.old book.new (relate table) a b 0 result }
+pub fn relate(book: &mut book::Words, table: Table, a: u64, b: u64) -> Answer
+    requires { WellFormed book.old × (a < 64) × (b < 64) }
+    ensures { Settled book.old book.new (relate (number table)) a b 0 result }
 {
     judge_pair(book, table, a, b)?;
     book::add_to_row(book, table, a, b);

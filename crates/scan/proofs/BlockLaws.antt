@@ -1,6 +1,7 @@
 -- The scan by blocks of 64 words: the lowest bad word of a block, where no word before it is bad, is the lowest of the book.
 use mathlib.Core.Path.{◌≡◌, refl, sym, ap, ap₂, ◌∙◌}
 use mathlib.Core.Bool.{Bool, true, false}
+use mathlib.Core.Logic.{◌⊎◌, inl, inr}
 use Prim.Native.Nat.{ℕ, zero, suc, ◌+◌, ◌-◌, ◌^◌, ◌≤◌, ◌<◌}
 use native.Mathlib.Omega.{arith}
 use native.Mathlib.Decide.{dec_lt}
@@ -17,6 +18,9 @@ use Rattle.sets.proofs.SearchLaws.{lowest_passes, lowest_first, lowest_is, lowes
 use Rattle.rules.specs.Book.{Book, book_words, head_words, table_count, tasks, roles, subjects, active}
 use Rattle.rules.specs.Book.{bad_mask, bad_active, RowTest, masks, actives, order_masks, row_tests, bad_row, bad, first_bad}
 use Rattle.rules.proofs.WordLaws.{bad_word, bad_head, bad_row_lem}
+use Rattle.book.specs.declared.Table.{Table}
+use Rattle.book.specs.declared.Table.TheVariants.{Sme, Dme, Rb, Sb}
+use Rattle.book.specs.Tables.{number}
 use Rattle.scan.specs.Blocks.{mask_bad, active_bad, row_bad}
 use Rattle.scan.proofs.BadLaws.{zero_word, some_word}
 
@@ -69,14 +73,16 @@ module _ (d : Book) where
 abbrev pub row_test : ℕ → RowTest
 row_test n = get_or row_tests n (λ d r v. false)
 
+abbrev test_of : Table → RowTest
+test_of t = row_test (number t)
+
 -- The four pair tables have one test.
-pub pair_test : (n : ℕ) → n < 4 → row_test n ≡ masks tasks tasks
+pub pair_test : (t : Table) → (t ≡ Sme) ⊎ ((t ≡ Dme) ⊎ ((t ≡ Rb) ⊎ (t ≡ Sb))) → row_test (number t) ≡ masks tasks tasks
 unfolding row_tests
-pair_test zero h = refl
-pair_test (suc zero) h = refl
-pair_test (suc (suc zero)) h = refl
-pair_test (suc (suc (suc zero))) h = refl
-pair_test (suc (suc (suc (suc n)))) h = absurd (omega arith)
+pair_test t (inl e) = ap test_of e
+pair_test t (inr (inl e)) = ap test_of e
+pair_test t (inr (inr (inl e))) = ap test_of e
+pair_test t (inr (inr (inr e))) = ap test_of e
 
 -- The bad rows of table n are those that its test finds:
 module _ (d : Book) (n : ℕ) (h : n < table_count) where

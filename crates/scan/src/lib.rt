@@ -3,9 +3,12 @@
 
 ghost use Rattle.std.specs.Prelude.{◌≡◌, ◌<◌};
 ghost use Rattle.sets.specs.Members.{IsLowest};
-ghost use Rattle.rules.specs.Book.{table_count, orders, names, bad_active, bad_cell};
+ghost use Rattle.rules.specs.Book.{orders, names, bad_active, bad_cell};
+ghost use Rattle.book.specs.Tables.{number};
 ghost use Rattle.book.specs.Slice.{tables};
 ghost use Rattle.scan.specs.Blocks.{has_role, mask_bad, active_bad, row_bad, cell_bad, joined_cells, IsFirstBad};
+
+use book::Table;
 
 // Whether v is 0, or one more than a number of the set.
 fn is_in(set: u64, v: u64) -> bool
@@ -51,9 +54,9 @@ fn is_bad_cell(in_order: bool, roles: u64, subjects: u64, v: u64) -> bool
 }
 
 // Whether row r of a table of masks is bad: of an undefined owner any but 0 is, of a defined one what names something that is not known.
-fn is_bad_mask_at(book: &book::Words, table: u64, owners: u64, known: u64, r: u64) -> bool
-    requires { (table < table_count) × (r < 64) }
-    ensures { result ≡ mask_bad (tables book.now) table owners known r }
+fn is_bad_mask_at(book: &book::Words, table: Table, owners: u64, known: u64, r: u64) -> bool
+    requires { r < 64 }
+    ensures { result ≡ mask_bad (tables book.now) (number table) owners known r }
 {
     let v = book::row(book, table, r);
     if sets::has(owners, r) {
@@ -64,9 +67,8 @@ fn is_bad_mask_at(book: &book::Words, table: u64, owners: u64, known: u64, r: u6
 }
 
 // The lowest bad row of a table of masks, if it has one.
-fn bad_mask_in(book: &book::Words, table: u64, owners: u64, known: u64) -> Option<u64>
-    requires { (table < table_count) }
-    ensures { IsLowest (mask_bad (tables book.now) table owners known) result }
+fn bad_mask_in(book: &book::Words, table: Table, owners: u64, known: u64) -> Option<u64>
+    ensures { IsLowest (mask_bad (tables book.now) (number table) owners known) result }
 {
     (0..64).find(|r| is_bad_mask_at(book, table, owners, known, *r))
 }
@@ -76,7 +78,7 @@ fn is_bad_active_at(book: &book::Words, subjects: u64, roles: u64, r: u64) -> bo
     requires { (r < 64) }
     ensures { result ≡ active_bad (tables book.now) subjects roles r }
 {
-    let v = book::row(book, book::ACTIVE, r);
+    let v = book::row(book, Table::Active, r);
     v != 0 && is_bad_active(sets::has(subjects, r), roles, v)
 }
 
@@ -88,20 +90,19 @@ fn bad_active_in(book: &book::Words, subjects: u64, roles: u64) -> Option<u64>
 }
 
 // The lowest bad row of a table, if it has one.
-fn bad_row_in(book: &book::Words, table: u64) -> Option<u64>
-    requires { (table < table_count) }
-    ensures { IsLowest (row_bad (tables book.now) table) result }
+fn bad_row_in(book: &book::Words, table: Table) -> Option<u64>
+    ensures { IsLowest (row_bad (tables book.now) (number table)) result }
 {
     let tasks = book::head(book, book::TASKS);
     let roles = book::head(book, book::ROLES);
     let subjects = book::head(book, book::SUBJECTS);
     match table {
-        book::SME..=book::SB => bad_mask_in(book, table, tasks, tasks),
-        book::JUNIORS => bad_mask_in(book, table, roles, roles),
-        book::TASKS_OF => bad_mask_in(book, table, roles, tasks),
-        book::ROLES_OF => bad_mask_in(book, table, subjects, roles),
-        book::ACTIVE => bad_active_in(book, subjects, roles),
-        _ => bad_mask_in(book, table, !0, tasks),
+        Table::Sme | Table::Dme | Table::Rb | Table::Sb => bad_mask_in(book, table, tasks, tasks),
+        Table::Juniors => bad_mask_in(book, table, roles, roles),
+        Table::TasksOf => bad_mask_in(book, table, roles, tasks),
+        Table::RolesOf => bad_mask_in(book, table, subjects, roles),
+        Table::Active => bad_active_in(book, subjects, roles),
+        Table::Orders => bad_mask_in(book, table, !0, tasks),
     }
 }
 
@@ -145,7 +146,7 @@ fn bad_cell_in(book: &book::Words, order: u64) -> Option<u64>
     requires { (order < 64) }
     ensures { IsLowest (cell_bad (tables book.now) order) result }
 {
-    let tasks = book::row(book, book::ORDERS, order);
+    let tasks = book::row(book, Table::Orders, order);
     if tasks == 0 && joined_cells(book, order) == 0 {
         return None;
     }
@@ -159,7 +160,7 @@ pub fn first_bad(book: &book::Words) -> Option<u64>
     if book::head(book, 3) != 0 {
         return Some(3);
     }
-    for table in 0..9 {
+    for table in book::TABLES {
         if let Some(r) = bad_row_in(book, table) {
             return Some(book::row_at(table, r));
         }

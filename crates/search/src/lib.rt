@@ -4,20 +4,21 @@
 #![tactic(auto)]
 
 ghost use Rattle.std.specs.Prelude.{◌≡◌, ◌<◌};
-ghost use Rattle.rules.specs.Book.{table_count};
 ghost use Rattle.sets.specs.Mask.{meet, alone_if, picked};
 ghost use Rattle.sets.specs.Members.{IsLowest};
 ghost use Rattle.rules.specs.Requests.{is_open};
 ghost use Rattle.rules.specs.Numbers.{between, outside};
 ghost use Rattle.rules.specs.Audit.{pair_free};
+ghost use Rattle.book.specs.Tables.{number};
 ghost use Rattle.book.specs.Slice.{tables};
 ghost use Rattle.search.specs.Pairs.{found_pair};
 
+use book::Table;
+
 // x of xs the lowest that has a partner, then y its lowest partner: y of ys in x's row of the table. The form is document 01's; since the
 // inner loop visits partners alone, it takes one turn where there is one.
-pub fn first_pair(book: &book::Words, table: u64, xs: u64, ys: u64) -> Option<(u64, u64)>
-    requires { table < table_count }
-    ensures { result ≡ found_pair (between ((tables book.now).row table) xs ys) }
+pub fn first_pair(book: &book::Words, table: Table, xs: u64, ys: u64) -> Option<(u64, u64)>
+    ensures { result ≡ found_pair (between ((tables book.now).row (number table)) xs ys) }
 {
     let mut found = None;
     'search: for x in sets::each(xs) {
@@ -30,9 +31,9 @@ pub fn first_pair(book: &book::Words, table: u64, xs: u64, ys: u64) -> Option<(u
 }
 
 // Number r alone, where row r of the table meets the set; else nothing.
-pub fn meeting_row(book: &book::Words, table: u64, set: u64, r: u64) -> u64
-    requires { (table < table_count) × (r < 64) }
-    ensures { result ≡ alone_if (λ i. meet ((tables book.now).row table i) set) r }
+pub fn meeting_row(book: &book::Words, table: Table, set: u64, r: u64) -> u64
+    requires { r < 64 }
+    ensures { result ≡ alone_if (λ i. meet ((tables book.now).row (number table) i) set) r }
 {
     if sets::meets(book::row(book, table, r), set) {
         sets::alone(r)
@@ -42,9 +43,8 @@ pub fn meeting_row(book: &book::Words, table: u64, set: u64, r: u64) -> u64
 }
 
 // The numbers among `those` whose rows of the table meet the set.
-pub fn meeting(book: &book::Words, table: u64, those: u64, set: u64) -> u64
-    requires { table < table_count }
-    ensures { result ≡ picked (λ i. meet ((tables book.now).row table i) set) those }
+pub fn meeting(book: &book::Words, table: Table, those: u64, set: u64) -> u64
+    ensures { result ≡ picked (λ i. meet ((tables book.now).row (number table) i) set) those }
 {
     let mut out = 0;
     for r in sets::each(those) {
@@ -54,9 +54,8 @@ pub fn meeting(book: &book::Words, table: u64, those: u64, set: u64) -> u64
 }
 
 // Whether the set holds no pair of the table: no member's row meets the set.
-pub fn is_pair_free(book: &book::Words, table: u64, set: u64) -> bool
-    requires { table < table_count }
-    ensures { result ≡ pair_free ((tables book.now).row table) set }
+pub fn is_pair_free(book: &book::Words, table: Table, set: u64) -> bool
+    ensures { result ≡ pair_free ((tables book.now).row (number table)) set }
 {
     for x in sets::each(set) {
         if sets::meets(book::row(book, table, x), set) {
@@ -78,7 +77,7 @@ pub fn lowest_open(book: &book::Words) -> Option<u64>
     ensures { IsLowest (is_open (tables book.now)) result }
 {
     for p in 0..64 {
-        if book::row(book, book::ORDERS, p) != 0 {
+        if book::row(book, Table::Orders, p) != 0 {
             return Some(p);
         }
     }

@@ -1,6 +1,7 @@
 // All about one thing: what it is, has, excludes and is bound to, and what is in hand.
 ghost use Rattle.std.specs.Prelude.{ℕ, ◌<◌};
 
+use book::Table;
 use crate::entries;
 use crate::entries::{Entry, Hand, Thing};
 use called::Pen;
@@ -19,7 +20,7 @@ fn size(pen: &mut Pen, book: &book::Words, thing: Thing) {
     if thing.sort == Sort::Order {
         pen.paper.text("  how many tasks ");
         pen.paper
-            .number(sets::count(book::row(book, book::ORDERS, thing.n)));
+            .number(sets::count(book::row(book, Table::Orders, thing.n)));
         pen.paper.byte(b'\n');
     }
 }
@@ -28,7 +29,7 @@ fn size(pen: &mut Pen, book: &book::Words, thing: Thing) {
 fn excluded(book: &book::Words, set: u64) -> Entry {
     Entry::of(
         Sort::Task,
-        trade::joined_rows(book, book::SME, book::SME, set),
+        trade::joined_rows(book, Table::Sme, Table::Sme, set),
     )
 }
 
@@ -58,7 +59,7 @@ fn is_held(book: &book::Words, person: Thing, task: u64) -> bool
 // The tasks of the role that a person acts in, as long as they own it; without those that exclude one that they hold (SME), which they may
 // do in no order meanwhile.
 fn may_do(book: &book::Words, person: Thing) -> Entry {
-    let owned = trade::below(book, book::row(book, book::ROLES_OF, person.n));
+    let owned = trade::below(book, book::row(book, Table::RolesOf, person.n));
     let acting = entries::acting_in(book, person);
     let tasks = trade::owned_tasks(book, acting.set & owned);
     let held = those(Sort::Task, |task| is_held(book, person, task));
@@ -95,7 +96,7 @@ fn of_role(pen: &mut Pen, book: &book::Words, role: Thing) {
     let [_, juniors, assigned, owned] = entries::of_role(book, role);
     let seniors = those(Sort::Role, |r| sets::has(trade::reach(book, r), n));
     let owners = those(Sort::Person, |s| trade::owns_role(book, s, n));
-    let actors = those(Sort::Person, |s| book::row(book, book::ACTIVE, s) == n + 1);
+    let actors = those(Sort::Person, |s| book::row(book, Table::Active, s) == n + 1);
     put(
         pen,
         &[
@@ -121,7 +122,7 @@ fn of_task(pen: &mut Pen, book: &book::Words, task: Thing) {
     let owners = those(
         Sort::Person,
         |s| sets::has(
-            trade::owned_tasks(book, book::row(book, book::ROLES_OF, s)),
+            trade::owned_tasks(book, book::row(book, Table::RolesOf, s)),
             n,
         ),
     );
@@ -183,7 +184,7 @@ fn hand(pen: &mut Pen, book: &book::Words, about: Sort, hand: Hand) {
 fn hands(pen: &mut Pen, book: &book::Words, thing: Thing) {
     let mut idle = true;
     for order in 0..64u64 {
-        for task in sets::each(book::row(book, book::ORDERS, order)) {
+        for task in sets::each(book::row(book, Table::Orders, order)) {
             let it = Hand::of(order, task);
             if !it.is_free(book) && it.concerns(book, thing) {
                 hand(pen, book, thing.sort, it);

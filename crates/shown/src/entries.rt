@@ -5,6 +5,7 @@ ghost use Rattle.rules.specs.Book.{orders};
 ghost use Rattle.book.specs.Slice.{tables};
 ghost use Rattle.shown.specs.Cells.{cell_count};
 
+use book::Table;
 use labels::Sort;
 
 // How many cells the book has: one for each task of each order.
@@ -51,7 +52,7 @@ impl Thing {
             Sort::Task => sets::has(book::head(book, book::TASKS), n),
             Sort::Role => sets::has(book::head(book, book::ROLES), n),
             Sort::Person => sets::has(book::head(book, book::SUBJECTS), n),
-            _ => book::row(book, book::ORDERS, n) != 0,
+            _ => book::row(book, Table::Orders, n) != 0,
         };
         is_known.then_some(Thing { sort, n })
     }
@@ -90,7 +91,7 @@ impl Hand {
     pub fn is_known(self, book: &book::Words) -> bool
         ensures { result ≡ bit ((tables book.now).row orders self.order) self.task }
     {
-        book::is_in_row(book, book::ORDERS, self.order, self.task)
+        book::is_in_row(book, Table::Orders, self.order, self.task)
     }
 
     // Whether nobody has it in hand, and no role holds it.
@@ -112,12 +113,12 @@ impl Hand {
 
 // The role that a person acts in.
 pub fn acting_in(book: &book::Words, person: Thing) -> Entry {
-    Entry::one(Sort::Role, book::row(book, book::ACTIVE, person.n))
+    Entry::one(Sort::Role, book::row(book, Table::Active, person.n))
 }
 
 // A person: their number, roles, active role, tasks.
 pub fn of_person(book: &book::Words, person: Thing) -> [Entry; 4] {
-    let assigned = book::row(book, book::ROLES_OF, person.n);
+    let assigned = book::row(book, Table::RolesOf, person.n);
     [
         person.entry(),
         Entry::of(Sort::Role, assigned),
@@ -130,8 +131,8 @@ pub fn of_person(book: &book::Words, person: Thing) -> [Entry; 4] {
 pub fn of_role(book: &book::Words, role: Thing) -> [Entry; 4] {
     [
         role.entry(),
-        Entry::of(Sort::Role, book::row(book, book::JUNIORS, role.n)),
-        Entry::of(Sort::Task, book::row(book, book::TASKS_OF, role.n)),
+        Entry::of(Sort::Role, book::row(book, Table::Juniors, role.n)),
+        Entry::of(Sort::Task, book::row(book, Table::TasksOf, role.n)),
         Entry::of(Sort::Task, trade::owned_tasks(book, sets::alone(role.n))),
     ]
 }
@@ -141,10 +142,10 @@ pub fn of_task(book: &book::Words, task: Thing) -> [Entry; 7] {
     let n = task.n;
     [
         sets::alone(n),
-        book::row(book, book::SME, n),
-        book::row(book, book::DME, n),
-        book::row(book, book::RB, n),
-        book::row(book, book::SB, n),
+        book::row(book, Table::Sme, n),
+        book::row(book, Table::Dme, n),
+        book::row(book, Table::Rb, n),
+        book::row(book, Table::Sb, n),
         trade::subject_group(book, n),
         trade::role_group(book, n),
     ]

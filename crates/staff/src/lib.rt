@@ -2,19 +2,20 @@
 #![tactic(auto)]
 
 ghost use Rattle.std.specs.Prelude.{◌≡◌, ◌<◌};
-ghost use Rattle.rules.specs.Book.{table_count};
 ghost use Rattle.rules.specs.Requests.{assign};
 ghost use Rattle.rules.specs.Numbers.{state_refusal, assign_conflicts, first_of};
+ghost use Rattle.book.specs.Tables.{number};
 ghost use Rattle.book.specs.Slice.{tables, WellFormed};
 ghost use Rattle.answers.specs.Answers.{said};
 ghost use Rattle.deeds.specs.Outcome.{decide, Settled};
 
 use answers::{Answer, Refusal};
+use book::Table;
 
 // 5 where it is assigned already.
-fn assign_refusal(book: &book::Words, table: u64, a: u64, b: u64) -> Answer
-    requires { (table < table_count) × (a < 64) × (b < 64) }
-    ensures { said result ≡ state_refusal (tables book.now) (assign table) a b 0 }
+fn assign_refusal(book: &book::Words, table: Table, a: u64, b: u64) -> Answer
+    requires { (a < 64) × (b < 64) }
+    ensures { said result ≡ state_refusal (tables book.now) (assign (number table)) a b 0 }
 {
     if book::is_in_row(book, table, b, a) {
         return Err(Refusal::AlreadySet);
@@ -23,31 +24,31 @@ fn assign_refusal(book: &book::Words, table: u64, a: u64, b: u64) -> Answer
 }
 
 // What conflicts, by the table: tasks of roles, juniors, roles of subjects. A table that nothing is assigned in is refused.
-fn assign_conflict(book: &book::Words, table: u64, a: u64, b: u64) -> Answer
+fn assign_conflict(book: &book::Words, table: Table, a: u64, b: u64) -> Answer
     requires { WellFormed book.now × (a < 64) × (b < 64) }
-    ensures { said result ≡ first_of (assign_conflicts table) (tables book.now) a b }
+    ensures { said result ≡ first_of (assign_conflicts (number table)) (tables book.now) a b }
 {
     match table {
-        book::TASKS_OF => gains::task_conflict(book, a, b),
-        book::JUNIORS => gains::junior_conflict(book, a, b),
-        book::ROLES_OF => gains::own_conflict(book, a, b),
+        Table::TasksOf => gains::task_conflict(book, a, b),
+        Table::Juniors => gains::junior_conflict(book, a, b),
+        Table::RolesOf => gains::own_conflict(book, a, b),
         _ => Err(Refusal::UnknownKind),
     }
 }
 
 // The answer, on the book as it stands.
-fn judge_assignment(book: &book::Words, table: u64, a: u64, b: u64) -> Answer
-    requires { WellFormed book.now × (table < table_count) × (a < 64) × (b < 64) }
-    ensures { said result ≡ decide (tables book.now) (assign table) a b 0 }
+fn judge_assignment(book: &book::Words, table: Table, a: u64, b: u64) -> Answer
+    requires { WellFormed book.now × (a < 64) × (b < 64) }
+    ensures { said result ≡ decide (tables book.now) (assign (number table)) a b 0 }
 {
     assign_refusal(book, table, a, b)?;
     assign_conflict(book, table, a, b)
 }
 
 // Kinds 8 to 10: number a joins row b of the table, where nothing stands in the way.
-pub fn assign(book: &mut book::Words, table: u64, a: u64, b: u64) -> Answer
-    requires { WellFormed book.old × (table < table_count) × (a < 64) × (b < 64) }
-    ensures { Settled book.old book.new (assign table) a b 0 result }
+pub fn assign(book: &mut book::Words, table: Table, a: u64, b: u64) -> Answer
+    requires { WellFormed book.old × (a < 64) × (b < 64) }
+    ensures { Settled book.old book.new (assign (number table)) a b 0 result }
 {
     judge_assignment(book, table, a, b)?;
     book::add_to_row(book, table, b, a);

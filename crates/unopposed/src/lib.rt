@@ -3,11 +3,12 @@
 #![tactic(auto)]
 
 ghost use Rattle.std.specs.Prelude.{◌<◌};
-ghost use Rattle.rules.specs.Book.{table_count};
 ghost use Rattle.rules.specs.Requests.{define, activate, take_back};
+ghost use Rattle.book.specs.Tables.{number};
 ghost use Rattle.deeds.specs.Outcome.{Settled};
 
 use answers::{Answer, Refusal};
+use book::Table;
 
 // Kinds 1, 2, 3: number a joins a mask of the head. 5 where it is defined already.
 pub fn define(book: &mut book::Words, word: u64, a: u64) -> Answer
@@ -30,14 +31,14 @@ pub fn activate(book: &mut book::Words, a: u64, b: u64) -> Answer
     if !trade::owns_role(book, b, a) {
         return Err(Refusal::NotOwned);
     }
-    book::set_row(book, book::ACTIVE, b, a + 1);
+    book::set_row(book, Table::Active, b, a + 1);
     Ok(())
 }
 
 // Kinds 15, 16, 17: number a leaves row b of a table. 6 where it isn't there.
-pub fn take_back(book: &mut book::Words, table: u64, a: u64, b: u64) -> Answer
-    requires { (table < table_count) × (a < 64) × (b < 64) }
-    ensures { Settled book.old book.new (take_back table) a b 0 result }
+pub fn take_back(book: &mut book::Words, table: Table, a: u64, b: u64) -> Answer
+    requires { (a < 64) × (b < 64) }
+    ensures { Settled book.old book.new (take_back (number table)) a b 0 result }
 {
     if !book::is_in_row(book, table, b, a) {
         return Err(Refusal::NotThere);

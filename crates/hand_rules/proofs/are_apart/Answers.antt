@@ -59,11 +59,8 @@ are_free-requires c =
     let s = c.args in
     let d = tables s.book.now in
     let sized = read_sized (words s.book.now) (λ i h. c.fits-book i) in
-    let l = c.loop-order in (
-      search rules,
-      λ k h out.
-          all-orders d l.order k (omega arith) l.invariant.0 (l.invariant.2 k h) ∙ nothing_anywhere d sized (search rules) k h out,
-    )
+    let l = c.loop-order in
+    λ k h out. all-orders d l.order k (omega arith) l.invariant.0 (l.invariant.2 k h) ∙ nothing_anywhere d sized (search rules) k h out
 
 pub returns : goal.returns
 unfolding sme_apart dme_apart

@@ -14,7 +14,6 @@ use Rattle.rules.specs.Audit.{implies}
 use Rattle.rules.proofs.BookLaws.{read_sized}
 use Rattle.book.specs.Slice.{words, tables}
 use Rattle.hand_rules.proofs.ApartLaws.{all_alike, shut_noted, nothing_held}
-use borrow.Author.Rules.{rules}
 use Rattle.hand_rules.proofs.is_dme_apart_in.Goals as goal
 
 -- What is asked of an order, by whether it is open.
@@ -42,11 +41,8 @@ are_free-requires c =
     let d = tables s.book.now in
     let sized = read_sized (words s.book.now)
     (λ i h. c.fits-book i) in
-    let noted = c.note_order.ensures in (
-      search rules,
-      λ k h out.
-          first-noted d s.order k h (noted k h) ∙ nothing_held d sized c.requires.0.1 s.order k h out,
-    )
+    let noted = c.note_order.ensures in
+    λ k h out. first-noted d s.order k h (noted k h) ∙ nothing_held d sized c.requires.0.1 s.order k h out
 
 pub returns : goal.returns
 unfolding is_open

@@ -9,6 +9,7 @@ use Rattle.sets.proofs.MemberLaws.{lowest_in, seen_on, seen_fails, seen_all}
 use Rattle.rules.specs.Audit.{pair_free}
 use Rattle.book.specs.Slice.{tables}
 use Rattle.search.proofs.is_pair_free.Invariants.{free}
+use Rattle.book.specs.Tables.{number}
 use Rattle.search.proofs.is_pair_free.Goals as goal
 
 pub returns-then-meets : goal.returns-then-meets
@@ -17,7 +18,7 @@ returns-then-meets c =
     let s = c.args in
     let l = c.loop-x in
     let v = c.in-Some.ensures.steps in
-    let rows : ℕ → ℕ = (tables s.book.now).row s.table in
+    let rows : ℕ → ℕ = (tables s.book.now).row (number s.table) in
     let x = lowest (bit l.x-iterator.left) in
     let met = c.meets.ensures ∙ ap (λ (m : ℕ). meet m s.set) c.row.ensures ∙ ap (λ (k : ℕ). meet (rows k) s.set) v.at in
     sym (seen_fails (free rows s.set) v.some v.fits
@@ -28,7 +29,7 @@ loop-x-preserved c =
     let s = c.args in
     let l = c.loop-x in
     let v = c.in-Some.ensures.steps in
-    let rows : ℕ → ℕ = (tables s.book.now).row s.table in
+    let rows : ℕ → ℕ = (tables s.book.now).row (number s.table) in
     let x = lowest (bit l.x-iterator.left) in
     let met = c.meets.ensures ∙ ap (λ (m : ℕ). meet m s.set) c.row.ensures ∙ ap (λ (k : ℕ). meet (rows k) s.set) v.at in
     rw v.rest (
@@ -41,4 +42,4 @@ unfolding pair_free
 returns c =
     let s = c.args in
     let l = c.loop-x in
-    sym (seen_all (free ((tables s.book.now).row s.table) s.set) (rw c.in-None.ensures.steps.0 at l.invariant.0))
+    sym (seen_all (free ((tables s.book.now).row (number s.table)) s.set) (rw c.in-None.ensures.steps.0 at l.invariant.0))
