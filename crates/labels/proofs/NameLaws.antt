@@ -175,7 +175,7 @@ module _ (names : List ℕ) (sort n : ℕ) where
   no_thing_no_name h =
       let blank = eq-eqb _ _ (letter_no_thing names sort n 0 h) in
       let none : name_length names sort n ≡ 0 =
-          lowest_is 24 0 (blank_at names sort n) 0 (omega arith) (omega arith) blank (λ j a b. absurd (omega arith)) in
+      lowest_is 24 0 (blank_at names sort n) 0 (omega arith) (omega arith) blank (λ j a b. absurd (omega arith)) in
       ap (λ (k : ℕ). take k (drop (row_at sort n) names)) (sym none)
 
   module _ (s : sort < 4) (h : n < 64) (at : ℕ) (e : at ≡ row_at sort n) where
@@ -191,11 +191,11 @@ module _ (names : List ℕ) (sort n : ℕ) where
     unfolding name_length
     name_end None f =
         let l = lowest_end 24 (blank_at names sort n)
-            (λ k b. ne_eqb _ _ (λ q. f (at + k) (omega arith) (omega arith) (letter_within names sort n k s at h b e ∙ q))) in
+        (λ k b. ne_eqb _ _ (λ q. f (at + k) (omega arith) (omega arith) (letter_within names sort n k s at h b e ∙ q))) in
         omega arith
     name_end (Some i) f =
         let l = lowest_is 24 0 (blank_at names sort n) (i - at) (omega arith) (omega arith) (eq-eqb _ _ (sym (shift i f.0 f.1) ∙ f.2))
-            (λ k a b. ne_eqb _ _ (λ q. f.3 (at + k) (omega arith) (omega arith) (letter_within names sort n k s at h (omega arith) e ∙ q))) in
+        (λ k a b. ne_eqb _ _ (λ q. f.3 (at + k) (omega arith) (omega arith) (letter_within names sort n k s at h (omega arith) e ∙ q))) in
         omega arith
 
     -- Where it has letters, they lie within the table.
@@ -216,8 +216,8 @@ module _ (names : List ℕ) (sort n : ℕ) where
     -- So the name is what a read up to there gives, and where it gives nothing, no bytes.
     pub name_read : (end : ℕ) → end ≡ at + name_length names sort n → (g : Option (Bor (List ℕ))) (none : Bor (List ℕ)) → none.now ≡ []
         → MatchOption g ((end < at) ⊎ (length names < end))
-          (λ x. (at ≤ end) × (end ≤ length names) × (x.now ≡ slice_range names at end) × (length x.now + at ≡ end))
-          × ((at ≤ end) × (end ≤ length names) → IsSome g)
+        (λ x. (at ≤ end) × (end ≤ length names) × (x.now ≡ slice_range names at end) × (length x.now + at ≡ end))
+        × ((at ≤ end) × (end ≤ length names) → IsSome g)
         → (unwrap_or g none).now ≡ name_bytes names sort n
     unfolding name_bytes
     name_read end q None none z f = z ∙ ap (λ (k : ℕ). take k (drop (row_at sort n) names)) (go (dec_lt 0 (name_length names sort n)) f.0)

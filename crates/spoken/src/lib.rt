@@ -193,7 +193,13 @@ pub fn close(paper: &mut Paper, how: How) {
 
 // The help ..
 pub fn help(paper: &mut Paper, line: u64, how: How) {
-    begin(paper, line, b",\"help\":\"", b"the words of the panel\n", how);
+    begin(
+        paper,
+        line,
+        b",\"help\":\"",
+        b"the words of the panel\n",
+        how,
+    );
     manual::page(paper);
     close(paper, how);
 }

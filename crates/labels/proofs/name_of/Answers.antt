@@ -17,7 +17,7 @@ returns c =
     let sort = sort_number a.sort in
     let at = c.in-Some.ensures in
     let first =
-        first_from_Range _ _ _ c.find.result (λ k. letter_at a.names.now k ≡ 32) (λ k. letter_at a.names.now k ≡ 32 → ⊥) c.find.ensures.ran
-        (λ x q k. search (rules, tests)) (λ x q k. search (rules, tests)) in
+    first_from_Range _ _ _ c.find.result (λ k. letter_at a.names.now k ≡ 32) (λ k. letter_at a.names.now k ≡ 32 → ⊥) c.find.ensures.ran
+    (λ x q k. search (rules, tests)) (λ x q k. search (rules, tests)) in
     let end = c.unwrap_or-end.ensures ∙ name_end a.names.now sort a.n at.0.0 at.0.1 c.in-Some.at at.1 c.find.result first in
     ap (λ x. x.now) c.unwrap_or.ensures ∙ name_read a.names.now sort a.n at.0.0 at.0.1 c.in-Some.at at.1 _ end c.get.result _ refl c.get.ensures.lookup
