@@ -178,26 +178,22 @@ module _ (names : List ℕ) (sort n : ℕ) where
       lowest_is 24 0 (blank_at names sort n) 0 (omega arith) (omega arith) blank (λ j a b. absurd (omega arith)) in
       ap (λ (k : ℕ). take k (drop (row_at sort n) names)) (sym none)
 
+  -- The first blank is where the name ends; where the row has none, its end.
+  pub first_blank : (r : Option ℕ)
+      → MatchOption r ((k : ℕ) → 0 ≤ k → k < 24 → name_letter names sort n k ≡ 32 → ⊥)
+      (λ i. (0 ≤ i) × (i < 24) × (name_letter names sort n i ≡ 32) × ((k : ℕ) → 0 ≤ k → k < i → name_letter names sort n k ≡ 32 → ⊥))
+      → unwrap_or r 24 ≡ name_length names sort n
+  unfolding name_length
+  first_blank None f = lowest_end 24 (blank_at names sort n) (λ k b. ne_eqb _ _ (f k (omega arith) b))
+  first_blank (Some i) f =
+      sym (lowest_is 24 0 (blank_at names sort n) i (omega arith) (omega arith) (eq-eqb _ _ f.2) (λ k a b. ne_eqb _ _ (f.3 k a b)))
+
+  -- No name is longer than its row.
+  pub name_short : name_length names sort n ≤ 24
+  unfolding name_length
+  name_short = omega (arith, lowest_most 24 0 (blank_at names sort n))
+
   module _ (s : sort < 4) (h : n < 64) (at : ℕ) (e : at ≡ row_at sort n) where
-    -- letter k of the table, as a letter of the name
-    shift : (k : ℕ) → at ≤ k → k < at + 24 → letter_at names k ≡ name_letter names sort n (k - at)
-    shift k l m = ap (letter_at names) (omega arith) ∙ letter_within names sort n (k - at) s at h (omega arith) e
-
-    -- The first blank from the row's first byte on is where the name ends.
-    pub name_end : (r : Option ℕ)
-        → MatchOption r ((k : ℕ) → at ≤ k → k < at + 24 → letter_at names k ≡ 32 → ⊥)
-        (λ i. (at ≤ i) × (i < at + 24) × (letter_at names i ≡ 32) × ((k : ℕ) → at ≤ k → k < i → letter_at names k ≡ 32 → ⊥))
-        → unwrap_or r (at + 24) ≡ at + name_length names sort n
-    unfolding name_length
-    name_end None f =
-        let l = lowest_end 24 (blank_at names sort n)
-        (λ k b. ne_eqb _ _ (λ q. f (at + k) (omega arith) (omega arith) (letter_within names sort n k s at h b e ∙ q))) in
-        omega arith
-    name_end (Some i) f =
-        let l = lowest_is 24 0 (blank_at names sort n) (i - at) (omega arith) (omega arith) (eq-eqb _ _ (sym (shift i f.0 f.1) ∙ f.2))
-        (λ k a b. ne_eqb _ _ (λ q. f.3 (at + k) (omega arith) (omega arith) (letter_within names sort n k s at h (omega arith) e ∙ q))) in
-        omega arith
-
     -- Where it has letters, they lie within the table.
     name_within : 0 < name_length names sort n → at + name_length names sort n ≤ length names
     unfolding name_length
@@ -207,7 +203,7 @@ module _ (names : List ℕ) (sort n : ℕ) where
         last = lowest_first 24 0 (blank_at names sort n) (name_length names sort n - 1) (omega arith) (omega arith)
 
         within : name_length names sort n - 1 < 24
-        within = omega (arith, lowest_most 24 0 (blank_at names sort n))
+        within = omega (arith, name_short)
 
         go : Dec (length names < at + name_length names sort n) → at + name_length names sort n ≤ length names
         go (yes d) = absurd (not_both _ (eq-eqb _ _ (sym (letter_within names sort n _ s at h within e) ∙ sym (letter_out names _ (omega arith)))) last)

@@ -5,7 +5,7 @@
 ghost use Rattle.std.specs.Prelude.{◌≡◌, ◌+◌, ◌<◌, ◌≤◌, length};
 ghost use Rattle.std.specs.Option.{SomeIff};
 ghost use Rattle.text.specs.Rows.{filled};
-ghost use Rattle.labels.specs.Names.{is_name_byte, has_name_bytes, is_name, sort_number, row_at, found, given, name_bytes};
+ghost use Rattle.labels.specs.Names.{is_name_byte, has_name_bytes, is_name, sort_number, row_at, found, given, name_letter, name_length, name_bytes};
 
 // What a number at the panel stands for: a thing of one of the four sorts that have names; or no thing, since it is not used, may be
 // any number, or is a mask of tasks.
@@ -131,6 +131,25 @@ pub fn give(names: &mut [u8], sort: Sort, n: u64, word: &[u8])
     }
 }
 
+// Letter i of the name of thing n of the sort; a blank behind its row, or where there is no such thing.
+pub fn letter(names: &[u8], sort: Sort, n: u64, i: usize) -> u8
+    ensures { result ≡ name_letter names.now (sort_number sort) n i }
+{
+    match row_of(sort, n) {
+        Some(at) if i < WIDTH => text::letter(names, at + i),
+        _ => b' ',
+    }
+}
+
+// How long the name of thing n of the sort is; 0 where it has none.
+pub fn length_of(names: &[u8], sort: Sort, n: u64) -> usize
+    ensures { result ≡ name_length names.now (sort_number sort) n }
+{
+    (0..WIDTH)
+        .find(|i| letter(names, sort, n, *i) == b' ')
+        .unwrap_or(WIDTH)
+}
+
 // The name of thing n of the sort; empty where it has none, or where there is no such thing.
 pub fn name_of<'a>(names: &'a [u8], sort: Sort, n: u64) -> &'a [u8]
     ensures { result.now ≡ name_bytes names.now (sort_number sort) n }
@@ -138,9 +157,5 @@ pub fn name_of<'a>(names: &'a [u8], sort: Sort, n: u64) -> &'a [u8]
     let Some(at) = row_of(sort, n) else {
         return &[];
     };
-    let behind = at + WIDTH;
-    let end = (at..behind)
-        .find(|i| text::letter(names, *i) == b' ')
-        .unwrap_or(behind);
-    names.get(at..end).unwrap_or(&[])
+    names.get(at..at + length_of(names, sort, n)).unwrap_or(&[])
 }

@@ -1,23 +1,20 @@
--- The name ends at the first blank from the row's first byte on; it is read as far as the table goes.
-use Rattle.std.proofs.Common.{refl, ap, ◌∙◌, ◌≡◌}
-use borrow.Author.Rules.{rules}
-use borrow.Author.Tests.{tests}
-use Rattle.std.proofs.lemmas.Iterator.{first_from_Range}
+-- The name is read from the row's first byte on, as far as the table goes.
+use Rattle.std.proofs.Common.{refl, ap, ◌∙◌, ◌+◌, ℕ}
+use native.Mathlib.Omega.{arith}
 use Rattle.labels.specs.Names.{sort_number}
-use Rattle.text.specs.Rows.{letter_at}
-use Rattle.labels.proofs.NameLaws.{no_thing_no_name, name_end, name_read}
+use Rattle.labels.proofs.NameLaws.{no_thing_no_name, name_short, name_read}
 use Rattle.labels.proofs.name_of.Goals as goal
 
 pub returns-in_default : goal.returns-in_default
 returns-in_default c = no_thing_no_name c.args.names.now (sort_number c.args.sort) c.args.n c.in_default.ensures
 
+pub overflow_add-at : goal.overflow_add-at
+overflow_add-at c = omega (arith, name_short c.args.names.now (sort_number c.args.sort) c.args.n, c.length_of.ensures, c.in-Some.ensures)
+
 pub returns : goal.returns
 returns c =
     let a = c.args in
-    let sort = sort_number a.sort in
     let at = c.in-Some.ensures in
-    let first =
-    first_from_Range _ _ _ c.find.result (λ k. letter_at a.names.now k ≡ 32) (λ k. letter_at a.names.now k ≡ 32 → ⊥) c.find.ensures.ran
-    (λ x q k. search (rules, tests)) (λ x q k. search (rules, tests)) in
-    let end = c.unwrap_or-end.ensures ∙ name_end a.names.now sort a.n at.0.0 at.0.1 c.in-Some.at at.1 c.find.result first in
-    ap (λ x. x.now) c.unwrap_or.ensures ∙ name_read a.names.now sort a.n at.0.0 at.0.1 c.in-Some.at at.1 _ end c.get.result _ refl c.get.ensures.lookup
+    ap (λ x. x.now) c.unwrap_or.ensures
+    ∙ name_read a.names.now (sort_number a.sort) a.n at.0.0 at.0.1 c.in-Some.at at.1 _ (ap (λ (k : ℕ). c.in-Some.at + k) c.length_of.ensures)
+    c.get.result _ refl c.get.ensures.lookup
