@@ -24,9 +24,9 @@ suits a_task_mask sort = same_sort sort Mask
 -- all three arguments of a kind suit
 unfoldable pub kind_suits : ℕ → Bool
 kind_suits kind =
-    suits (row_of kind).a (wanted kind).a
-    && suits (row_of kind).b (wanted kind).b
-    && suits (row_of kind).c (wanted kind).c
+    suits (row_of kind).a (wanted kind).0
+    && suits (row_of kind).b (wanted kind).1
+    && suits (row_of kind).c (wanted kind).2
 
 -- how many kinds there are: the rows of the table, but for row 0, which is no kind
 unfoldable pub kind_count : ℕ

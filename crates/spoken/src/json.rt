@@ -46,12 +46,12 @@ fn word(paper: &mut Paper, kind: u64) {
 // The names of the request's things and the answer's, each behind the letter that its number has.
 fn all_names(pen: &mut Pen, v: Facts, answer: Answer) {
     let names = pen.names;
-    let wanted = typed::wanted(v.kind);
+    let typed::Takes(a, b, c) = typed::wanted(v.kind);
     let [x, y, z] = wanted::sorts_told(answer);
     let things = [
-        (b'a', wanted.a, v.a),
-        (b'b', wanted.b, v.b),
-        (b'c', wanted.c, v.c),
+        (b'a', a, v.a),
+        (b'b', b, v.b),
+        (b'c', c, v.c),
         (b'x', x, v.x),
         (b'y', y, v.y),
         (b'z', z, v.z),

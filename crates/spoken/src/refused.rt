@@ -31,11 +31,11 @@ fn past_sort(sort: Sort) -> &'static str {
 // Number 4: the argument at a place is at fault. In kind 13 the task may be defined, and not be one of the order's.
 fn argument(teller: &mut Teller, place: u64) {
     let v = teller.facts;
-    let wanted = typed::wanted(v.kind);
+    let typed::Takes(a, b, c) = typed::wanted(v.kind);
     let (sort, x) = match place {
-        1 => (wanted.a, v.a),
-        2 => (wanted.b, v.b),
-        _ => (wanted.c, v.c),
+        1 => (a, v.a),
+        2 => (b, v.b),
+        _ => (c, v.c),
     };
     teller.facts.x = x;
     teller.tell(match place {

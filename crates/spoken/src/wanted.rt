@@ -123,11 +123,11 @@ fn kind_named(word: &[u8]) -> Option<u64> {
 
 // The sort that a kind wants as a word of the request: an order's tasks may go on and on.
 fn sort_in(kind: u64, number: u64) -> Sort {
-    let wanted = typed::wanted(kind);
+    let typed::Takes(a, b, c) = typed::wanted(kind);
     match number {
-        2 => wanted.a,
-        3 => wanted.b,
-        4 if kind != kinds::OPEN => wanted.c,
+        2 => a,
+        3 => b,
+        4 if kind != kinds::OPEN => c,
         _ => Sort::Task,
     }
 }

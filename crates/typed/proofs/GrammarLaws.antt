@@ -89,7 +89,7 @@ module _ (line : List ℕ) (whole : Bool) (names : List ℕ) where
     argued : (want : Sort) → sort ≡ want → (x : Argument) → arg ≡ x → argument_at line whole names want at ≡ x
     argued want hs x q = ap (λ (s : Sort). argument_at line whole names s at) (sym hs) ∙ sym ha ∙ q
 
-    module _ (a b : ℕ) (hs : sort ≡ (wanted kind).c) where
+    module _ (a b : ℕ) (hs : sort ≡ (wanted kind).2) where
       pub third_is : (c behind : ℕ) → arg ≡ Is c behind → (l : Line) → l ≡ asked trial kind a b c →
           ends line whole behind l ≡ third_argument line whole names trial kind a b at
       unfolding third_argument
@@ -99,7 +99,7 @@ module _ (line : List ℕ) (whole : Bool) (names : List ℕ) where
       unfolding third_argument
       third_bad f q = follow_bad _ _ f (argued _ hs _ q)
 
-    module _ (a : ℕ) (hs : sort ≡ (wanted kind).b) where
+    module _ (a : ℕ) (hs : sort ≡ (wanted kind).1) where
       pub second_is : (b behind : ℕ) → arg ≡ Is b behind →
           third_argument line whole names trial kind a b behind ≡ second_argument line whole names trial kind a at
       unfolding second_argument
@@ -109,7 +109,7 @@ module _ (line : List ℕ) (whole : Bool) (names : List ℕ) where
       unfolding second_argument
       second_bad f q = follow_bad _ _ f (argued _ hs _ q)
 
-    module _ (hs : sort ≡ (wanted kind).a) where
+    module _ (hs : sort ≡ (wanted kind).0) where
       pub first_is : (a behind : ℕ) → arg ≡ Is a behind →
           second_argument line whole names trial kind a behind ≡ first_argument line whole names trial kind at
       unfolding first_argument

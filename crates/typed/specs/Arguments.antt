@@ -32,7 +32,7 @@ Not reason start = Err (record { reason = reason; start = start })
 
 -- a row of the table: what a kind takes as a, b and c
 abbrev pub takes : Sort → Sort → Sort → Takes
-takes a b c = record { a = a; b = b; c = c }
+takes a b c = record { 0 = a; 1 = b; 2 = c }
 
 -- Row 0 is of what is no kind: it takes none to three numbers, of Any size. Then come kinds 1, 2 and so on.
 abbrev pub table : List Takes

@@ -77,17 +77,17 @@ module _ (line : List ℕ) (whole : Bool) where
     -- the rest of a request, once its kind, a and b are read
     unfoldable pub third_argument : Bool → ℕ → ℕ → ℕ → ℕ → Line
     third_argument trial kind a b at =
-        following (λ c behind. ends behind (asked trial kind a b c)) (argument_at line whole names (wanted kind).c at)
+        following (λ c behind. ends behind (asked trial kind a b c)) (argument_at line whole names (wanted kind).2 at)
 
     -- .. once its kind and a are read
     unfoldable pub second_argument : Bool → ℕ → ℕ → ℕ → Line
     second_argument trial kind a at =
-        following (λ b behind. third_argument trial kind a b behind) (argument_at line whole names (wanted kind).b at)
+        following (λ b behind. third_argument trial kind a b behind) (argument_at line whole names (wanted kind).1 at)
 
     -- .. once its kind is read
     unfoldable pub first_argument : Bool → ℕ → ℕ → Line
     first_argument trial kind at =
-        following (λ a behind. second_argument trial kind a behind) (argument_at line whole names (wanted kind).a at)
+        following (λ a behind. second_argument trial kind a behind) (argument_at line whole names (wanted kind).0 at)
 
     -- a request whose kind is given as a number
     unfoldable pub by_number : Bool → ℕ → ℕ → Result ℕ Unread → Line

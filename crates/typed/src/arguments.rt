@@ -43,127 +43,35 @@ pub struct Fault {
 
 // What a kind takes as a, b and c.
 #[derive(Clone, Copy)]
-pub struct Takes {
-    pub a: Sort,
-    pub b: Sort,
-    pub c: Sort,
-}
+pub struct Takes(pub Sort, pub Sort, pub Sort);
 
 // Row 0, and one for each kind.
 const ROWS: usize = 22;
 
 // By kind, after row 0: what is no kind takes any numbers, none to three of them.
 const TABLE: [Takes; ROWS] = [
-    Takes {
-        a: Sort::Any,
-        b: Sort::Any,
-        c: Sort::Any,
-    }, // no kind
-    Takes {
-        a: Sort::Task,
-        b: Sort::Unused,
-        c: Sort::Unused,
-    }, // 1
-    Takes {
-        a: Sort::Role,
-        b: Sort::Unused,
-        c: Sort::Unused,
-    }, // 2
-    Takes {
-        a: Sort::Person,
-        b: Sort::Unused,
-        c: Sort::Unused,
-    }, // 3
-    Takes {
-        a: Sort::Task,
-        b: Sort::Task,
-        c: Sort::Unused,
-    }, // 4
-    Takes {
-        a: Sort::Task,
-        b: Sort::Task,
-        c: Sort::Unused,
-    }, // 5
-    Takes {
-        a: Sort::Task,
-        b: Sort::Task,
-        c: Sort::Unused,
-    }, // 6
-    Takes {
-        a: Sort::Task,
-        b: Sort::Task,
-        c: Sort::Unused,
-    }, // 7
-    Takes {
-        a: Sort::Task,
-        b: Sort::Role,
-        c: Sort::Unused,
-    }, // 8
-    Takes {
-        a: Sort::Role,
-        b: Sort::Role,
-        c: Sort::Unused,
-    }, // 9
-    Takes {
-        a: Sort::Role,
-        b: Sort::Person,
-        c: Sort::Unused,
-    }, // 10
-    Takes {
-        a: Sort::Role,
-        b: Sort::Person,
-        c: Sort::Unused,
-    }, // 11
-    Takes {
-        a: Sort::Order,
-        b: Sort::Unused,
-        c: Sort::Mask,
-    }, // 12
-    Takes {
-        a: Sort::Task,
-        b: Sort::Order,
-        c: Sort::Person,
-    }, // 13
-    Takes {
-        a: Sort::Order,
-        b: Sort::Unused,
-        c: Sort::Unused,
-    }, // 14
-    Takes {
-        a: Sort::Task,
-        b: Sort::Role,
-        c: Sort::Unused,
-    }, // 15
-    Takes {
-        a: Sort::Role,
-        b: Sort::Role,
-        c: Sort::Unused,
-    }, // 16
-    Takes {
-        a: Sort::Role,
-        b: Sort::Person,
-        c: Sort::Unused,
-    }, // 17
-    Takes {
-        a: Sort::Task,
-        b: Sort::Task,
-        c: Sort::Unused,
-    }, // 18
-    Takes {
-        a: Sort::Task,
-        b: Sort::Task,
-        c: Sort::Unused,
-    }, // 19
-    Takes {
-        a: Sort::Task,
-        b: Sort::Task,
-        c: Sort::Unused,
-    }, // 20
-    Takes {
-        a: Sort::Task,
-        b: Sort::Task,
-        c: Sort::Unused,
-    }, // 21
+    Takes(Sort::Any, Sort::Any, Sort::Any), // no kind
+    Takes(Sort::Task, Sort::Unused, Sort::Unused), // 1
+    Takes(Sort::Role, Sort::Unused, Sort::Unused), // 2
+    Takes(Sort::Person, Sort::Unused, Sort::Unused), // 3
+    Takes(Sort::Task, Sort::Task, Sort::Unused), // 4
+    Takes(Sort::Task, Sort::Task, Sort::Unused), // 5
+    Takes(Sort::Task, Sort::Task, Sort::Unused), // 6
+    Takes(Sort::Task, Sort::Task, Sort::Unused), // 7
+    Takes(Sort::Task, Sort::Role, Sort::Unused), // 8
+    Takes(Sort::Role, Sort::Role, Sort::Unused), // 9
+    Takes(Sort::Role, Sort::Person, Sort::Unused), // 10
+    Takes(Sort::Role, Sort::Person, Sort::Unused), // 11
+    Takes(Sort::Order, Sort::Unused, Sort::Mask), // 12
+    Takes(Sort::Task, Sort::Order, Sort::Person), // 13
+    Takes(Sort::Order, Sort::Unused, Sort::Unused), // 14
+    Takes(Sort::Task, Sort::Role, Sort::Unused), // 15
+    Takes(Sort::Role, Sort::Role, Sort::Unused), // 16
+    Takes(Sort::Role, Sort::Person, Sort::Unused), // 17
+    Takes(Sort::Task, Sort::Task, Sort::Unused), // 18
+    Takes(Sort::Task, Sort::Task, Sort::Unused), // 19
+    Takes(Sort::Task, Sort::Task, Sort::Unused), // 20
+    Takes(Sort::Task, Sort::Task, Sort::Unused), // 21
 ];
 
 // What a kind takes.

@@ -17,7 +17,7 @@ ghost use Rattle.typed.specs.Words.{part};
 ghost use Rattle.typed.specs.Grammar.{sort_for, asked, ends, help_at, third_argument, second_argument, first_argument, by_number, request_at, show_at};
 ghost use Rattle.typed.specs.Grammar.{is_taken, label_at, named_at, name_at, begun_by, line_of};
 
-pub use arguments::{Reason, wanted};
+pub use arguments::{Reason, Takes, wanted};
 use decimal::Unread;
 use labels::Sort;
 pub use words::next;
@@ -105,7 +105,7 @@ fn third(
 ) -> Line
     ensures { result ≡ third_argument line.now whole names.now trial kind a b at }
 {
-    match arguments::read_argument(line, whole, names, wanted(kind).c, at) {
+    match arguments::read_argument(line, whole, names, wanted(kind).2, at) {
         Ok((c, behind)) => ended(line, whole, behind, ask(trial, kind, a, b, c)),
         Err(fault) => Line::Fault(fault.reason, fault.start),
     }
@@ -115,7 +115,7 @@ fn third(
 fn second(line: &[u8], whole: bool, names: &[u8], trial: bool, kind: u64, a: u64, at: usize) -> Line
     ensures { result ≡ second_argument line.now whole names.now trial kind a at }
 {
-    match arguments::read_argument(line, whole, names, wanted(kind).b, at) {
+    match arguments::read_argument(line, whole, names, wanted(kind).1, at) {
         Ok((b, behind)) => third(line, whole, names, trial, kind, a, b, behind),
         Err(fault) => Line::Fault(fault.reason, fault.start),
     }
@@ -125,7 +125,7 @@ fn second(line: &[u8], whole: bool, names: &[u8], trial: bool, kind: u64, a: u64
 fn first(line: &[u8], whole: bool, names: &[u8], trial: bool, kind: u64, at: usize) -> Line
     ensures { result ≡ first_argument line.now whole names.now trial kind at }
 {
-    match arguments::read_argument(line, whole, names, wanted(kind).a, at) {
+    match arguments::read_argument(line, whole, names, wanted(kind).0, at) {
         Ok((a, behind)) => second(line, whole, names, trial, kind, a, behind),
         Err(fault) => Line::Fault(fault.reason, fault.start),
     }

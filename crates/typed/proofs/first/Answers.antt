@@ -6,8 +6,8 @@ use Rattle.typed.proofs.first.Goals as goal
 
 pub returns-in-Ok : goal.returns-in-Ok
 returns-in-Ok c =
-    c.second.ensures ∙ first_is _ _ _ _ _ _ _ _ c.read_argument.ensures (ap (λ (t : Takes). t.a) c.wanted.ensures) _ _ c.in-Ok.is
+    c.second.ensures ∙ first_is _ _ _ _ _ _ _ _ c.read_argument.ensures (ap (λ (t : Takes). t.0) c.wanted.ensures) _ _ c.in-Ok.is
 
 pub returns-in-Err : goal.returns-in-Err
 returns-in-Err c =
-    first_bad_lem _ _ _ _ _ _ _ _ c.read_argument.ensures (ap (λ (t : Takes). t.a) c.wanted.ensures) _ c.in-Err.is
+    first_bad_lem _ _ _ _ _ _ _ _ c.read_argument.ensures (ap (λ (t : Takes). t.0) c.wanted.ensures) _ c.in-Err.is

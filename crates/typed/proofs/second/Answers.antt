@@ -6,8 +6,8 @@ use Rattle.typed.proofs.second.Goals as goal
 
 pub returns-in-Ok : goal.returns-in-Ok
 returns-in-Ok c =
-    c.third.ensures ∙ second_is _ _ _ _ _ _ _ _ c.read_argument.ensures _ (ap (λ (t : Takes). t.b) c.wanted.ensures) _ _ c.in-Ok.is
+    c.third.ensures ∙ second_is _ _ _ _ _ _ _ _ c.read_argument.ensures _ (ap (λ (t : Takes). t.1) c.wanted.ensures) _ _ c.in-Ok.is
 
 pub returns-in-Err : goal.returns-in-Err
 returns-in-Err c =
-    second_bad _ _ _ _ _ _ _ _ c.read_argument.ensures _ (ap (λ (t : Takes). t.b) c.wanted.ensures) _ c.in-Err.is
+    second_bad _ _ _ _ _ _ _ _ c.read_argument.ensures _ (ap (λ (t : Takes). t.1) c.wanted.ensures) _ c.in-Err.is
