@@ -74,7 +74,7 @@ same_answers_listed() {
     sed -nE 's/^answer ([0-9]+ [A-Z_]+) .*/\1/p' "$room/lists" >"$room/header"
     # As one line, since the layout may break an arm. A case's name in capitals, with a _ before each but the first. Ok is number 0.
     {
-        echo 0 ACCEPTED
+        grep -q 'Ok(()) => Reply::default(),' crates/answers/src/lib.rt && echo 0 ACCEPTED
         tr '\n' ' ' <crates/answers/src/lib.rt | grep -oE 'Refusal::[A-Za-z]+(\([^)]*\))? *=> *\( *[0-9]+' |
             sed -E 's/Refusal::([A-Za-z]+).*[^0-9]([0-9]+)$/\2 \1/; s/([a-z])([A-Z])/\1_\2/g' | tr '[:lower:]' '[:upper:]'
     } >"$room/rattle"

@@ -14,13 +14,13 @@ use book::Table;
 use owners::Owner;
 
 // The first number that is no rule.
+// Stays: a rule goes by its number, here and in all that part by it: document 01 gives it, and a finding tells it to a C caller.
 const PAST: u8 = 11;
 
 // The numbers that rules 1 to 8 ask about: tasks in 1 to 5, roles in 6 and 7, subjects in 8. Where nothing is defined, nothing stands.
 fn asked(book: &book::Words, rule: u8) -> u64
     ensures { result ≡ asked_by (tables book.now) rule }
 {
-    // Stays: a rule goes by its number, which document 01 gives it and a finding tells a C caller; by name each would need a way back to it.
     match rule {
         6..=7 => book::head(book, book::ROLES),
         8 => book::head(book, book::SUBJECTS),

@@ -30,8 +30,8 @@ fn reaches(book: &book::Words, a: u64, b: u64) -> bool
     sets::has(trade::reach(book, a), b)
 }
 
-// 31 among role b and its seniors, then 32 among the subjects that own it, where the owner would gain these tasks.
-fn owners_conflict(book: &book::Words, gain: u64, b: u64) -> Answer
+// Kinds 8 and 9: 31 among role b and its seniors, then 32 among the subjects that own it, where the owner would gain these tasks.
+pub fn owners_conflict(book: &book::Words, gain: u64, b: u64) -> Answer
     requires { WellFormed book.now × (b < 64) }
     ensures { said result ≡ owners_conflict (tables book.now) gain b }
 {

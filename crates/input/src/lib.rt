@@ -161,7 +161,8 @@ impl<'a> Lines<'a> {
 
     // The next line, if there is one: no longer than the text that was lent.
     pub fn next(&mut self, source: &mut impl Read) -> Result<Option<Line<'_>>, Unreadable>
-        ensures { IfOk result (λ found. IfSome found (λ (line : Line). length line.text.now ≤ length self.old.text.now)) }
+        ensures room { length self.new.text.now ≡ length self.old.text.now }
+        ensures line { IfOk result (λ found. IfSome found (λ (line : Line). length line.text.now ≤ length self.old.text.now)) }
     {
         if self.gather(source)? {
             Ok(Some(self.line()))

@@ -90,7 +90,7 @@ fn bad_active_in(book: &book::Words, subjects: u64, roles: u64) -> Option<u64>
 }
 
 // The lowest bad row of a table, if it has one.
-// Stays: a match on the table, which says in a line for each what it may hold; closures handed in would say no less, and cost the scan.
+// Stays: a match on the table, which says in a line for each what it may hold; closures handed in would be these lines in another place.
 fn bad_row_in(book: &book::Words, table: Table) -> Option<u64>
     ensures { IsLowest (row_bad (tables book.now) (number table)) result }
 {

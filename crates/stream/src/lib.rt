@@ -18,6 +18,7 @@ ghost use Rattle.stream.specs.declared.Command.TheVariants.{Audit, Other};
 pub const LONGEST: usize = 4700;
 
 // What a line says.
+// Stays: no command is one of its cases, since `read` promises `command_of`, a definition that the examiner reads and that has it so.
 #[derive(Clone, Copy)]
 pub enum Command {
     New(usize),
