@@ -2,9 +2,9 @@
 ghost use Rattle.std.specs.Prelude.{◌≡◌, ltb};
 ghost use Rattle.labels.specs.Names.{sort_number};
 ghost use Rattle.typed.specs.Arguments.{value_of, called_by, counts, placed_at, thing_at, number_at, is_tasks, tasks_from, mask_at, argument_at};
-ghost use Rattle.typed.specs.Arguments.{wanted};
+ghost use Rattle.typed.specs.Arguments.{fault_at, NextWord, NeededWord, wanted};
 
-use crate::words;
+use crate::words::{self, Span};
 use decimal::Unread;
 use labels::Sort;
 
@@ -39,6 +39,18 @@ pub enum Reason {
 pub struct Fault {
     pub reason: Reason,
     pub start: usize,
+}
+
+impl Reason {
+    // The fault of a word that starts there.
+    pub(crate) fn at(self, start: usize) -> Fault
+        ensures { result ≡ fault_at self start }
+    {
+        Fault {
+            reason: self,
+            start,
+        }
+    }
 }
 
 // What a kind takes as a, b and c.
@@ -80,6 +92,30 @@ pub fn wanted(kind: u64) -> Takes
 {
     let i = kind as usize;
     if i < ROWS { TABLE[i] } else { TABLE[0] }
+}
+
+// The word from `at` on, if the line has one more; a line that is cut there is too long.
+pub fn next_word(line: &[u8], whole: bool, at: usize) -> Result<Option<Span>, Fault>
+    ensures { NextWord line.now whole at result }
+{
+    let word = words::next(line, at, whole);
+    if word.cut {
+        return Err(Reason::TooLong.at(word.start));
+    }
+    if word.start == word.end {
+        return Ok(None);
+    }
+    Ok(Some(word))
+}
+
+// The word from `at` on, which must be there.
+pub fn needed_word(line: &[u8], whole: bool, at: usize) -> Result<Span, Fault>
+    ensures { NeededWord line.now whole at result }
+{
+    match next_word(line, whole, at)? {
+        Some(word) => Ok(word),
+        None => Err(Reason::TooFew.at(words::next(line, at, whole).start)),
+    }
 }
 
 // The thing of the sort that a name stands for.
@@ -126,7 +162,7 @@ fn placed(value: Result<u64, Reason>, start: usize, end: usize) -> Result<(u64, 
 {
     match value {
         Ok(n) => Ok((n, end)),
-        Err(reason) => Err(Fault { reason, start }),
+        Err(reason) => Err(reason.at(start)),
     }
 }
 
@@ -140,41 +176,19 @@ pub fn thing(
 ) -> Result<(u64, usize), Fault>
     ensures { result ≡ thing_at line.now whole names.now sort at }
 {
-    let word = words::next(line, at, whole);
-    let start = word.start;
-    let end = word.end;
-    if word.cut {
-        return Err(Fault {
-            reason: Reason::TooLong,
-            start,
-        });
-    }
-    if start == end {
-        return Err(Fault {
-            reason: Reason::TooFew,
-            start,
-        });
-    }
-    placed(stands_for(names, sort, &line[start..end]), start, end)
+    let word = needed_word(line, whole, at)?;
+    let value = stands_for(names, sort, &line[word.start..word.end]);
+    placed(value, word.start, word.end)
 }
 
 // The word from `at` on as a number; 0 where there is none.
 fn number(line: &[u8], whole: bool, at: usize) -> Result<(u64, usize), Fault>
     ensures { result ≡ number_at line.now whole at }
 {
-    let word = words::next(line, at, whole);
-    let start = word.start;
-    let end = word.end;
-    if word.cut {
-        return Err(Fault {
-            reason: Reason::TooLong,
-            start,
-        });
-    }
-    if start == end {
+    let Some(word) = next_word(line, whole, at)? else {
         return Ok((0, at));
-    }
-    placed(counted(&line[start..end]), start, end)
+    };
+    placed(counted(&line[word.start..word.end]), word.start, word.end)
 }
 
 // The tasks that the words from `at` on name, put to the set, as far as the steps go.
@@ -191,28 +205,14 @@ fn tasks_from(
     if steps == 0 {
         return Ok((set, at));
     }
-    let word = words::next(line, at, whole);
-    if word.cut {
-        return Err(Fault {
-            reason: Reason::TooLong,
-            start: word.start,
-        });
-    }
-    if word.start == word.end {
+    let Some(word) = next_word(line, whole, at)? else {
         return Ok((set, at));
+    };
+    let (task, behind) = thing(line, whole, names, Sort::Task, at)?;
+    if task < 64 {
+        return tasks_from(line, whole, names, sets::add(set, task), behind, steps - 1);
     }
-    match thing(line, whole, names, Sort::Task, at) {
-        Ok((task, behind)) => {
-            if task < 64 {
-                return tasks_from(line, whole, names, sets::add(set, task), behind, steps - 1);
-            }
-            Err(Fault {
-                reason: Reason::NotInRange,
-                start: word.start,
-            })
-        }
-        Err(fault) => Err(fault),
-    }
+    Err(Reason::NotInRange.at(word.start))
 }
 
 // Whether the word is `tasks`.
@@ -227,15 +227,11 @@ fn mask(line: &[u8], whole: bool, names: &[u8], at: usize) -> Result<(u64, usize
     ensures { result ≡ mask_at line.now whole names.now at }
 {
     let word = words::next(line, at, whole);
-    let start = word.start;
-    let end = word.end;
-    if !is_tasks(&line[start..end]) {
+    if !is_tasks(&line[word.start..word.end]) {
         return thing(line, whole, names, Sort::Unused, at);
     }
-    match thing(line, whole, names, Sort::Task, end) {
-        Ok(_) => tasks_from(line, whole, names, 0, end, 64),
-        Err(fault) => Err(fault),
-    }
+    thing(line, whole, names, Sort::Task, word.end)?;
+    tasks_from(line, whole, names, 0, word.end, 64)
 }
 
 // The argument from `at` on, of the sort that is wanted.

@@ -14,9 +14,10 @@ ghost use Rattle.std.specs.Option.{SomeIff};
 ghost use Rattle.vocabulary.specs.Vocabulary.{row_for, kind_of};
 ghost use Rattle.decimal.specs.Decimal.{number_of};
 ghost use Rattle.typed.specs.Words.{part};
-ghost use Rattle.typed.specs.Grammar.{sort_for, asked, ends, help_at, third_argument, second_argument, first_argument, by_number, request_at, show_at};
+ghost use Rattle.typed.specs.Grammar.{line_said, sort_for, asked, ends, help_at, first_argument, by_number, request_at, show_at};
 ghost use Rattle.typed.specs.Grammar.{is_taken, label_at, named_at, name_at, begun_by, line_of};
 
+use arguments::Fault;
 pub use arguments::{Reason, Takes, wanted};
 use decimal::Unread;
 use labels::Sort;
@@ -68,18 +69,13 @@ pub fn sort_of(word: &[u8]) -> Option<Sort>
 }
 
 // What is said, where the line ends at `at`.
-fn ended(line: &[u8], whole: bool, at: usize, said: Line) -> Line
-    ensures { result ≡ ends line.now whole at said }
+fn ended(line: &[u8], whole: bool, at: usize, said: Line) -> Result<Line, Fault>
+    ensures { line_said result ≡ ends line.now whole at said }
 {
-    let word = next(line, at, whole);
-    let start = word.start;
-    if word.cut {
-        return Line::Fault(Reason::TooLong, start);
+    match arguments::next_word(line, whole, at)? {
+        Some(word) => Err(Reason::TooMany.at(word.start)),
+        None => Ok(said),
     }
-    if start == word.end {
-        return said;
-    }
-    Line::Fault(Reason::TooMany, start)
 }
 
 // The request, asked or only tried.
@@ -92,54 +88,40 @@ fn ask(trial: bool, kind: u64, a: u64, b: u64, c: u64) -> Line
     Line::Ask(Request { kind, a, b, c })
 }
 
-// The rest of the request, once its kind, a and b are read.
-fn third(
+// The rest of the request, once its kind is read.
+fn of_kind(
     line: &[u8],
     whole: bool,
     names: &[u8],
     trial: bool,
     kind: u64,
-    a: u64,
-    b: u64,
     at: usize,
-) -> Line
-    ensures { result ≡ third_argument line.now whole names.now trial kind a b at }
+) -> Result<Line, Fault>
+    ensures { line_said result ≡ first_argument line.now whole names.now trial kind at }
 {
-    match arguments::read_argument(line, whole, names, wanted(kind).2, at) {
-        Ok((c, behind)) => ended(line, whole, behind, ask(trial, kind, a, b, c)),
-        Err(fault) => Line::Fault(fault.reason, fault.start),
-    }
-}
-
-// The rest of the request, once its kind and a are read.
-fn second(line: &[u8], whole: bool, names: &[u8], trial: bool, kind: u64, a: u64, at: usize) -> Line
-    ensures { result ≡ second_argument line.now whole names.now trial kind a at }
-{
-    match arguments::read_argument(line, whole, names, wanted(kind).1, at) {
-        Ok((b, behind)) => third(line, whole, names, trial, kind, a, b, behind),
-        Err(fault) => Line::Fault(fault.reason, fault.start),
-    }
-}
-
-// The rest of the request, once its kind is read.
-fn first(line: &[u8], whole: bool, names: &[u8], trial: bool, kind: u64, at: usize) -> Line
-    ensures { result ≡ first_argument line.now whole names.now trial kind at }
-{
-    match arguments::read_argument(line, whole, names, wanted(kind).0, at) {
-        Ok((a, behind)) => second(line, whole, names, trial, kind, a, behind),
-        Err(fault) => Line::Fault(fault.reason, fault.start),
-    }
+    let takes = wanted(kind);
+    let (a, at) = arguments::read_argument(line, whole, names, takes.0, at)?;
+    let (b, at) = arguments::read_argument(line, whole, names, takes.1, at)?;
+    let (c, at) = arguments::read_argument(line, whole, names, takes.2, at)?;
+    ended(line, whole, at, ask(trial, kind, a, b, c))
 }
 
 // A request whose kind is given as a number.
-fn numbered(line: &[u8], whole: bool, names: &[u8], trial: bool, start: usize, end: usize) -> Line
+fn numbered(
+    line: &[u8],
+    whole: bool,
+    names: &[u8],
+    trial: bool,
+    start: usize,
+    end: usize,
+) -> Result<Line, Fault>
     requires { (start ≤ end) × (end ≤ length line.now) }
-    ensures { result ≡ by_number line.now whole names.now trial start end (number_of (part start end line.now)) }
+    ensures { line_said result ≡ by_number line.now whole names.now trial start end (number_of (part start end line.now)) }
 {
     match decimal::read(&line[start..end]) {
-        Ok(kind) => first(line, whole, names, trial, kind, end),
-        Err(Unread::TooLarge) => Line::Fault(Reason::TooLarge, start),
-        Err(Unread::NotDecimal) => Line::Fault(Reason::UnknownWord, start),
+        Ok(kind) => of_kind(line, whole, names, trial, kind, end),
+        Err(Unread::TooLarge) => Err(Reason::TooLarge.at(start)),
+        Err(Unread::NotDecimal) => Err(Reason::UnknownWord.at(start)),
     }
 }
 
@@ -151,63 +133,47 @@ fn kind_of(word: &[u8]) -> Option<u64>
 }
 
 // The request that stands from `at` on.
-fn read_request(line: &[u8], whole: bool, names: &[u8], trial: bool, at: usize) -> Line
-    ensures { result ≡ request_at line.now whole names.now trial at }
+fn read_request(
+    line: &[u8],
+    whole: bool,
+    names: &[u8],
+    trial: bool,
+    at: usize,
+) -> Result<Line, Fault>
+    ensures { line_said result ≡ request_at line.now whole names.now trial at }
 {
-    let word = next(line, at, whole);
-    let start = word.start;
-    let end = word.end;
-    if word.cut {
-        return Line::Fault(Reason::TooLong, start);
-    }
-    if start == end {
-        return Line::Fault(Reason::TooFew, start);
-    }
-    match kind_of(&line[start..end]) {
-        Some(kind) => first(line, whole, names, trial, kind, end),
-        None => numbered(line, whole, names, trial, start, end),
+    let word = arguments::needed_word(line, whole, at)?;
+    match kind_of(&line[word.start..word.end]) {
+        Some(kind) => of_kind(line, whole, names, trial, kind, word.end),
+        None => numbered(line, whole, names, trial, word.start, word.end),
     }
 }
 
 // `show` alone, or with a sort and one of it; the word `show` ends before `at`.
-fn show(line: &[u8], whole: bool, names: &[u8], at: usize) -> Line
-    ensures { result ≡ show_at line.now whole names.now at }
+fn show(line: &[u8], whole: bool, names: &[u8], at: usize) -> Result<Line, Fault>
+    ensures { line_said result ≡ show_at line.now whole names.now at }
 {
-    let word = next(line, at, whole);
-    let start = word.start;
-    let end = word.end;
-    if word.cut {
-        return Line::Fault(Reason::TooLong, start);
-    }
-    if start == end {
-        return Line::Show;
-    }
-    let Some(sort) = sort_of(&line[start..end]) else {
-        return Line::Fault(Reason::NotSort, start);
+    let Some(word) = arguments::next_word(line, whole, at)? else {
+        return Ok(Line::Show);
     };
-    match arguments::thing(line, whole, names, sort, end) {
-        Ok((n, behind)) => ended(line, whole, behind, Line::ShowOne(sort, n)),
-        Err(fault) => Line::Fault(fault.reason, fault.start),
-    }
+    let Some(sort) = sort_of(&line[word.start..word.end]) else {
+        return Err(Reason::NotSort.at(word.start));
+    };
+    let (n, behind) = arguments::thing(line, whole, names, sort, word.end)?;
+    ended(line, whole, behind, Line::ShowOne(sort, n))
 }
 
 // `help` alone, or with a word of the panel.
-fn help(line: &[u8], whole: bool, at: usize) -> Line
-    ensures { result ≡ help_at line.now whole at }
+fn help(line: &[u8], whole: bool, at: usize) -> Result<Line, Fault>
+    ensures { line_said result ≡ help_at line.now whole at }
 {
-    let word = next(line, at, whole);
-    let start = word.start;
-    let end = word.end;
-    if word.cut {
-        return Line::Fault(Reason::TooLong, start);
-    }
-    if start == end {
-        return Line::Help;
-    }
-    let Some(row) = vocabulary::find(&line[start..end]) else {
-        return Line::Fault(Reason::UnknownWord, start);
+    let Some(word) = arguments::next_word(line, whole, at)? else {
+        return Ok(Line::Help);
     };
-    ended(line, whole, end, Line::HelpOn(row))
+    let Some(row) = vocabulary::find(&line[word.start..word.end]) else {
+        return Err(Reason::UnknownWord.at(word.start));
+    };
+    ended(line, whole, word.end, Line::HelpOn(row))
 }
 
 // Whether another thing of the sort than n has the name.
@@ -221,64 +187,57 @@ fn is_taken(names: &[u8], sort: Sort, n: u64, name: &[u8]) -> bool
 }
 
 // The name from `at` on, for thing n of the sort.
-fn label(line: &[u8], whole: bool, names: &[u8], sort: Sort, n: u64, at: usize) -> Line
-    ensures { result ≡ label_at line.now whole names.now sort n at }
+fn label(
+    line: &[u8],
+    whole: bool,
+    names: &[u8],
+    sort: Sort,
+    n: u64,
+    at: usize,
+) -> Result<Line, Fault>
+    ensures { line_said result ≡ label_at line.now whole names.now sort n at }
 {
-    let word = next(line, at, whole);
-    let start = word.start;
-    let end = word.end;
-    if word.cut {
-        return Line::Fault(Reason::TooLong, start);
+    let word = arguments::needed_word(line, whole, at)?;
+    let name = &line[word.start..word.end];
+    if !labels::is_name(name) {
+        return Err(Reason::NotName.at(word.start));
     }
-    if start == end {
-        return Line::Fault(Reason::TooFew, start);
+    if is_taken(names, sort, n, name) {
+        return Err(Reason::Taken.at(word.start));
     }
-    if !labels::is_name(&line[start..end]) {
-        return Line::Fault(Reason::NotName, start);
-    }
-    if is_taken(names, sort, n, &line[start..end]) {
-        return Line::Fault(Reason::Taken, start);
-    }
-    ended(line, whole, end, Line::Name(sort, n, start, end))
+    ended(
+        line,
+        whole,
+        word.end,
+        Line::Name(sort, n, word.start, word.end),
+    )
 }
 
 // The thing from `at` on, whose number is 0 to 63, and then its name.
-fn named(line: &[u8], whole: bool, names: &[u8], sort: Sort, at: usize) -> Line
-    ensures { result ≡ named_at line.now whole names.now sort at }
+fn named(line: &[u8], whole: bool, names: &[u8], sort: Sort, at: usize) -> Result<Line, Fault>
+    ensures { line_said result ≡ named_at line.now whole names.now sort at }
 {
-    match arguments::thing(line, whole, names, sort, at) {
-        Ok((n, behind)) => {
-            if n < 64 {
-                return label(line, whole, names, sort, n, behind);
-            }
-            Line::Fault(Reason::NotInRange, next(line, at, whole).start)
-        }
-        Err(fault) => Line::Fault(fault.reason, fault.start),
+    let (n, behind) = arguments::thing(line, whole, names, sort, at)?;
+    if n < 64 {
+        return label(line, whole, names, sort, n, behind);
     }
+    Err(Reason::NotInRange.at(next(line, at, whole).start))
 }
 
 // `name`, a sort, one of it and its name.
-fn name(line: &[u8], whole: bool, names: &[u8], at: usize) -> Line
-    ensures { result ≡ name_at line.now whole names.now at }
+fn name(line: &[u8], whole: bool, names: &[u8], at: usize) -> Result<Line, Fault>
+    ensures { line_said result ≡ name_at line.now whole names.now at }
 {
-    let word = next(line, at, whole);
-    let start = word.start;
-    let end = word.end;
-    if word.cut {
-        return Line::Fault(Reason::TooLong, start);
+    let word = arguments::needed_word(line, whole, at)?;
+    match sort_of(&line[word.start..word.end]) {
+        Some(sort) => named(line, whole, names, sort, word.end),
+        None => Err(Reason::NotSort.at(word.start)),
     }
-    if start == end {
-        return Line::Fault(Reason::TooFew, start);
-    }
-    let Some(sort) = sort_of(&line[start..end]) else {
-        return Line::Fault(Reason::NotSort, start);
-    };
-    named(line, whole, names, sort, end)
 }
 
 // What the line says that begins with the word of a row, which ends before `end`.
-fn begun(line: &[u8], whole: bool, names: &[u8], row: u64, end: usize) -> Line
-    ensures { result ≡ begun_by line.now whole names.now row end }
+fn begun(line: &[u8], whole: bool, names: &[u8], row: u64, end: usize) -> Result<Line, Fault>
+    ensures { line_said result ≡ begun_by line.now whole names.now row end }
 {
     match row {
         vocabulary::SHOW => show(line, whole, names, end),
@@ -291,21 +250,25 @@ fn begun(line: &[u8], whole: bool, names: &[u8], row: u64, end: usize) -> Line
     }
 }
 
+// What the line says, or what is wrong with it.
+fn read_line(line: &[u8], whole: bool, names: &[u8]) -> Result<Line, Fault>
+    ensures { line_said result ≡ line_of line.now whole names.now }
+{
+    let Some(word) = arguments::next_word(line, whole, 0)? else {
+        return Ok(Line::Blank);
+    };
+    match vocabulary::find(&line[word.start..word.end]) {
+        Some(row) => begun(line, whole, names, row, word.end),
+        None => read_request(line, whole, names, false, 0),
+    }
+}
+
 // What the line says; it is not whole where it went on past the last byte here. Names stand for what they are in the table.
 pub fn read(line: &[u8], whole: bool, names: &[u8]) -> Line
     ensures { result ≡ line_of line.now whole names.now }
 {
-    let word = next(line, 0, whole);
-    let start = word.start;
-    let end = word.end;
-    if word.cut {
-        return Line::Fault(Reason::TooLong, start);
-    }
-    if start == end {
-        return Line::Blank;
-    }
-    match vocabulary::find(&line[start..end]) {
-        Some(row) => begun(line, whole, names, row, end),
-        None => read_request(line, whole, names, false, 0),
+    match read_line(line, whole, names) {
+        Ok(said) => said,
+        Err(fault) => Line::Fault(fault.reason, fault.start),
     }
 }

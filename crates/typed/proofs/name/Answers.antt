@@ -1,31 +1,24 @@
 -- The first word is a sort.
-use mathlib.Core.Path.{ap, ◌∙◌}
-use Rattle.typed.specs.declared.arguments.Reason.TheVariants.{TooFew}
-use Rattle.typed.specs.declared.Line.TheVariants.{Fault}
-use Rattle.typed.proofs.WordLaws.{starts}
+use mathlib.Core.Path.{◌∙◌}
 use Rattle.typed.specs.Grammar.{name_at}
-use Rattle.typed.proofs.GrammarLaws.{next_cut, next_missing, next_there, name_none, name_sort}
+use Rattle.typed.proofs.GrammarLaws.{raised, faulted, next_neither, next_there, name_none, name_sort}
 use Rattle.typed.proofs.name.Goals as goal
 
-pub returns-then-word : goal.returns-then-word
+pub returns-in_err-word : goal.returns-in_err-word
 unfolding name_at
-returns-then-word c = next_cut _ _ _ _ c.next-word.ensures.0 _ _ c.if-word.true
+returns-in_err-word c =
+    raised _ c.from_residual.ensures.1 ∙ next_neither _ _ _ _ c.in_err-word.ensures _
 
-pub returns-then-start-end : goal.returns-then-start-end
+pub returns-in-Some : goal.returns-in-Some
 unfolding name_at
-returns-then-start-end c =
-    ap (Fault TooFew) (starts _ _ _ _ c.next-word.ensures.0)
-    ∙ next_missing _ _ _ _ c.next-word.ensures.0 _ _ c.if-word.false c.if-start-end.true
-
-pub returns-in_default : goal.returns-in_default
-unfolding name_at
-returns-in_default c =
-    name_none _ _ _ _ _ _ _ c.sort_of.ensures c.in_default.is
-    ∙ next_there _ _ _ _ c.next-word.ensures.0 _ _ c.if-word.false c.if-start-end.false
-
-pub returns : goal.returns
-unfolding name_at
-returns c =
+returns-in-Some c =
     c.named.ensures
     ∙ name_sort _ _ _ _ _ _ _ c.sort_of.ensures _ c.in-Some.is
-    ∙ next_there _ _ _ _ c.next-word.ensures.0 _ _ c.if-word.false c.if-start-end.false
+    ∙ next_there _ _ _ _ c.in_ok-word.ensures _ _
+
+pub returns-in-None : goal.returns-in-None
+unfolding name_at
+returns-in-None c =
+    faulted _ c.at.ensures
+    ∙ name_none _ _ _ _ _ _ _ c.sort_of.ensures c.in-None.is
+    ∙ next_there _ _ _ _ c.in_ok-word.ensures _ _

@@ -1,17 +1,17 @@
 -- The thing has a number below 64.
 use mathlib.Core.Path.{◌∙◌}
 use native.Mathlib.Omega.{arith}
-use Rattle.typed.proofs.GrammarLaws.{named_is, named_out, named_bad}
+use Rattle.typed.proofs.GrammarLaws.{raised, faulted, named_is, named_out, named_bad}
 use Rattle.typed.proofs.named.Goals as goal
+
+pub returns-in_err-n : goal.returns-in_err-n
+returns-in_err-n c =
+    raised _ c.from_residual.ensures.1 ∙ named_bad _ _ _ _ _ _ c.in_err-n.ensures
 
 pub returns-then-n-lt64 : goal.returns-then-n-lt64
 returns-then-n-lt64 c =
-    c.label.ensures ∙ named_is _ _ _ _ _ _ c.thing.ensures _ _ c.in-Ok.is c.if-n-lt64.true
+    c.label.ensures ∙ named_is _ _ _ _ _ _ _ c.in_ok-n.ensures c.if-n-lt64.true
 
-pub returns-else-n-lt64 : goal.returns-else-n-lt64
-returns-else-n-lt64 c =
-    named_out _ _ _ _ _ _ c.thing.ensures _ _ c.in-Ok.is (omega arith) _ c.next.ensures.0
-
-pub returns-in-Err : goal.returns-in-Err
-returns-in-Err c =
-    named_bad _ _ _ _ _ _ c.thing.ensures _ c.in-Err.is
+pub returns : goal.returns
+returns c =
+    faulted _ c.at.ensures ∙ named_out _ _ _ _ _ _ _ c.in_ok-n.ensures (omega arith) _ c.next.ensures.0

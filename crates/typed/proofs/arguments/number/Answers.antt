@@ -1,18 +1,22 @@
--- The word is cut, missing, or a number.
+-- The line is cut, over, or goes on with a number.
 use mathlib.Core.Path.{ap, ◌∙◌}
-use Rattle.typed.specs.Arguments.{placed_at}
-use Rattle.typed.specs.Arguments.{Value}
-use Rattle.typed.proofs.ArgumentLaws.{number_cut, number_missing, number_there}
+use Rattle.std.proofs.Common.{Err}
+use Rattle.typed.specs.Arguments.{Value, counts, placed_at, number_at}
+use Rattle.typed.proofs.WordLaws.{passed_up, said_cut, said_over, said_there}
 use Rattle.typed.proofs.arguments.number.Goals as goal
 
-pub returns-then-word : goal.returns-then-word
-returns-then-word c = number_cut _ _ _ _ c.next-word.ensures.0 c.if-word.true
+pub returns-in_err-word : goal.returns-in_err-word
+unfolding number_at
+returns-in_err-word c = passed_up _ c.from_residual.ensures.1 ∙ said_cut _ _ _ Err _ c.in_err-word.ensures _ _
 
-pub returns-then-start-end : goal.returns-then-start-end
-returns-then-start-end c = number_missing _ _ _ _ c.next-word.ensures.0 c.if-word.false c.if-start-end.true
+pub returns-in_default : goal.returns-in_default
+unfolding number_at
+returns-in_default c = said_over _ _ _ (rw (c.in_default.is) at c.in_ok-word.ensures) _ _ _
 
 pub returns : goal.returns
+unfolding number_at
 returns c =
-    let word = c.next-word in
-    let there = number_there _ _ _ _ word.ensures.0 c.if-word.false c.if-start-end.false in
-    c.placed.ensures ∙ ap (λ (v : Value). placed_at v word.result.start word.result.end) c.counted.ensures ∙ there
+    let word = c.in-Some.word in
+    c.placed.ensures
+    ∙ ap (λ (v : Value). placed_at v word.start word.end) c.counted.ensures
+    ∙ said_there _ _ _ word (rw (c.in-Some.is) at c.in_ok-word.ensures) (λ start end bytes. placed_at (counts bytes) start end) _ _

@@ -1,18 +1,18 @@
--- The word is cut, missing, or stands for something.
+-- The word is there, and stands for something.
 use mathlib.Core.Path.{ap, ◌∙◌}
-use Rattle.typed.specs.Arguments.{placed_at}
-use Rattle.typed.specs.Arguments.{Value}
-use Rattle.typed.proofs.ArgumentLaws.{thing_cut, thing_missing, thing_there}
+use Rattle.std.proofs.Common.{Err}
+use Rattle.typed.specs.Arguments.{Value, value_of, placed_at, thing_at}
+use Rattle.typed.proofs.WordLaws.{passed_up, said_neither, said_there}
 use Rattle.typed.proofs.arguments.thing.Goals as goal
 
-pub returns-then-word : goal.returns-then-word
-returns-then-word c = thing_cut _ _ _ _ c.next-word.ensures.0 _ _ c.if-word.true
-
-pub returns-then-start-end : goal.returns-then-start-end
-returns-then-start-end c = thing_missing _ _ _ _ c.next-word.ensures.0 _ _ c.if-word.false c.if-start-end.true
+pub returns-in_err-word : goal.returns-in_err-word
+unfolding thing_at
+returns-in_err-word c = passed_up _ c.from_residual.ensures.1 ∙ said_neither _ _ _ Err _ c.in_err-word.ensures _
 
 pub returns : goal.returns
+unfolding thing_at
 returns c =
-    let word = c.next-word in
-    let there = thing_there _ _ _ _ word.ensures.0 _ _ c.if-word.false c.if-start-end.false in
-    c.placed.ensures ∙ ap (λ (v : Value). placed_at v word.result.start word.result.end) c.stands_for.ensures ∙ there
+    let word = c.in_ok-word.word in
+    c.placed.ensures
+    ∙ ap (λ (v : Value). placed_at v word.start word.end) c.stands_for-value.ensures
+    ∙ said_there _ _ _ word c.in_ok-word.ensures (λ start end bytes. placed_at (value_of c.args.names.now c.args.sort bytes) start end) _ _
