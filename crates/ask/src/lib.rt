@@ -70,7 +70,7 @@ fn row_of(kind: u64) -> Row
 
 // Whether v is a defined task, role or subject, by the word of the head.
 fn is_defined(book: &book::Words, things: u64, v: u64) -> bool
-    requires { (things < head_words) }
+    requires { things < head_words }
     ensures { result ≡ (ltb v 64 && bit ((tables book.now).head things) v) }
 {
     v < 64 && sets::has(book::head(book, things), v)

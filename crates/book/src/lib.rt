@@ -1,21 +1,21 @@
 // The words of the book on a lent slice: rows read and cells written by index. Where each word lies is known here alone.
-// Whoever calls these has seen that the slice is full; the tables are numbered as in document 01's list.
+// That the slice is full its type says; the tables are numbered as in document 01's list.
+//
+// Stays: numbers below 64 are u64 with a `requires`: they shift, add to and compare with words and with what C gives; as a type of their own
+// each clause would say `r.n` for r, and each loop over 0 to 63 would build one.
 #![tactic(auto)]
 
 ghost use Rattle.std.specs.Prelude.{◌≡◌, ◌+◌, ◌*◌, ◌≤◌, ◌<◌};
 ghost use Rattle.sets.specs.Mask.{bit};
 ghost use Rattle.rules.specs.Book.{head_words, table_at, cells_at, cell_base, cell_of, role_in, subject_in};
 ghost use Rattle.book.specs.Tables.{number};
-ghost use Rattle.book.specs.Slice.{tables, Full, Became, with_head, with_row, with_cell, with_member, without_member};
+ghost use Rattle.book.specs.Slice.{tables, Became, with_head, with_row, with_cell, with_member, without_member};
 
 // How many words a book has.
 pub const WORDS: usize = 4676;
 
 // The words of a book.
 pub type Words = [u64; WORDS];
-
-// The same, as a place: no word lies there.
-pub const END: u64 = WORDS as u64;
 
 // How many of them stand before the tables.
 const HEAD: u64 = 4;
@@ -27,6 +27,7 @@ const CELLS: u64 = 580;
 const CELL_BASE: u64 = 128;
 
 // The head's three masks: the defined tasks, roles and subjects.
+// Stays: numbers and no enum, since the head has a word 3 besides, which only the scan reads, and kinds 1 to 3 count them.
 pub const TASKS: u64 = 0;
 
 pub const ROLES: u64 = 1;
@@ -66,7 +67,7 @@ pub const TABLES: [Table; 9] = [
 
 // Where row r of a table stands.
 pub fn row_at(table: Table, r: u64) -> u64
-    requires { (r < 64) }
+    requires { r < 64 }
     ensures { result ≡ table_at (number table) + r }
 {
     HEAD + 64 * table as u64 + r
@@ -82,7 +83,7 @@ pub fn cell_at(order: u64, task: u64) -> u64
 
 // A word of the head: the defined tasks, roles or subjects, or word 3.
 pub fn head(book: &Words, i: u64) -> u64
-    requires { (i < head_words) }
+    requires { i < head_words }
     ensures { result ≡ (tables book.now).head i }
 {
     book[i as usize]
@@ -90,7 +91,7 @@ pub fn head(book: &Words, i: u64) -> u64
 
 // Row r of a table.
 pub fn row(book: &Words, table: Table, r: u64) -> u64
-    requires { (r < 64) }
+    requires { r < 64 }
     ensures { result ≡ (tables book.now).row (number table) r }
 {
     book[row_at(table, r) as usize]
@@ -113,6 +114,7 @@ pub fn cell(book: &Words, order: u64, task: u64) -> u64
 }
 
 // The executing role in a cell, plus 1; 0 for none.
+// Stays: 0 for none, here and for the subject: that is how document 01 writes E and S into the word, and `role_in` promises the word's own.
 pub fn role_in(cell: u64) -> u64
     ensures { result ≡ role_in cell }
 {
@@ -136,7 +138,7 @@ pub fn cell_of(role: u64, subject: u64) -> u64
 
 // Word i of the head is v.
 pub fn set_head(book: &mut Words, i: u64, v: u64)
-    requires { (i < head_words) }
+    requires { i < head_words }
     ensures { Became book.old book.new (with_head i v) }
 {
     book[i as usize] = v;
@@ -144,7 +146,7 @@ pub fn set_head(book: &mut Words, i: u64, v: u64)
 
 // Row r of a table is v.
 pub fn set_row(book: &mut Words, table: Table, r: u64, v: u64)
-    requires { (r < 64) }
+    requires { r < 64 }
     ensures { Became book.old book.new (with_row (number table) r v) }
 {
     book[row_at(table, r) as usize] = v;

@@ -10,7 +10,7 @@ use book::Table;
 
 // The order's task mask is stored, and all its 64 cells become 0.
 pub fn set_order(book: &mut book::Words, order: u64, tasks: u64)
-    requires { (order < 64) }
+    requires { order < 64 }
     ensures { Became book.old book.new (λ d. set_order d order tasks) }
 {
     book::set_row(book, Table::Orders, order, tasks);
@@ -48,7 +48,7 @@ impl Hand {
 
     // The cell of one task of the role hand, stamped.
     fn stamp_task(&self, book: &mut book::Words, task: u64)
-        requires { (task < 64) }
+        requires { task < 64 }
         ensures { Became book.old book.new (handed_at self.now task) }
     {
         let v = book::cell(book, self.order, task);

@@ -16,7 +16,7 @@ use owners::Owner;
 
 // What a role brings: all tasks that it owns.
 fn gained_role(book: &book::Words, a: u64) -> u64
-    requires { (a < 64) }
+    requires { a < 64 }
     ensures { result ≡ gained_role (tables book.now) a }
 {
     trade::owned_tasks(book, sets::alone(a))

@@ -55,7 +55,7 @@ pub fn held_among(book: &book::Words, order: u64, subject: u64, those: u64) -> u
 
 // Whether the subject's active word names a role that it owns now. No role is numbered above 63.
 pub fn active_owned(book: &book::Words, subject: u64) -> bool
-    requires { (subject < 64) }
+    requires { subject < 64 }
     ensures { result ≡ active_owned (tables book.now) subject }
 {
     let e = book::row(book, Table::Active, subject);

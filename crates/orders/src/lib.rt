@@ -17,7 +17,7 @@ use cells::Hand;
 
 // Kind 12: open order a with the task mask c. 5 where it is open already.
 pub fn open_order(book: &mut book::Words, a: u64, c: u64) -> Answer
-    requires { (a < 64) }
+    requires { a < 64 }
     ensures { Settled book.old book.new open_order a 0 c result }
 {
     if book::row(book, Table::Orders, a) != 0 {
@@ -29,7 +29,7 @@ pub fn open_order(book: &mut book::Words, a: u64, c: u64) -> Answer
 
 // Kind 14: close order a. Its mask and its 64 cells become 0.
 pub fn close_order(book: &mut book::Words, a: u64) -> Answer
-    requires { (a < 64) }
+    requires { a < 64 }
     ensures { Settled book.old book.new close_order a 0 0 result }
 {
     cells::set_order(book, a, 0);

@@ -23,15 +23,6 @@ pub struct Paper<'a> {
     ghost within: { used ≤ length room.now },
 }
 
-fn hex_digit(n: u8) -> u8 {
-    let low = n % 16;
-    if low < 10 {
-        b'0' + low
-    } else {
-        b'a' + (low - 10)
-    }
-}
-
 impl<'a> Paper<'a> {
     // A blank paper, on any room.
     pub fn on(room: &'a mut [u8]) -> Paper<'a>
@@ -156,5 +147,15 @@ impl<'a> Paper<'a> {
                 self.text(text);
             }
         }
+    }
+}
+
+// A digit to base 16.
+fn hex_digit(n: u8) -> u8 {
+    let low = n % 16;
+    if low < 10 {
+        b'0' + low
+    } else {
+        b'a' + (low - 10)
     }
 }

@@ -185,7 +185,8 @@ module _ (d : Book) (s : Sized d) (f : Formed d) where
         owned_clashing o ∙ sym (only_yes _ _ own)
 
     -- Where nobody starts in both, nobody has a clash: where no task clashes, where no role owns one, and where the search finds nobody.
-    pub no_owner : lowest (starts_in_both d owner (above d (2 ^ b)) (owners_of d (all_clashing d gain))) ≡ 64 → None ≡ found_clash (clashes_below d owner b gain)
+    pub no_owner : lowest (starts_in_both d owner (above d (2 ^ b)) (owners_of d (all_clashing d gain))) ≡ 64
+        → None ≡ found_clash (clashes_below d owner b gain)
     no_owner e = none_at (clashes_below d owner b gain) (sym e ∙ first_owner)
 
     holds : (o : ℕ) → starts_in_both d owner (above d (2 ^ b)) (owners_of d (all_clashing d gain)) o ≡ true

@@ -10,6 +10,7 @@ ghost use Rattle.owners.specs.Rising.{above, Raised, owners_of, starters, starts
 use book::Table;
 
 // Whether numbers 0 to 63 stand for roles or for subjects.
+// Stays: matched where the two part, and no closure, since it is handed through three searches and the definitions go by it too.
 #[derive(Clone, Copy)]
 pub enum Owner {
     Role,

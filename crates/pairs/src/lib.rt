@@ -38,6 +38,7 @@ fn pair_refusal(book: &book::Words, table: Table, a: u64, b: u64) -> Answer
 }
 
 // What conflicts with the new pair, by the table. A table that has no pairs is refused.
+// Stays: a match on the table, as document 01 lists conflicts by kind; the kinds' tests as closures would be the same four lines elsewhere.
 fn pair_conflict(book: &book::Words, table: Table, a: u64, b: u64) -> Answer
     requires { WellFormed book.now × (a < 64) × (b < 64) }
     ensures { said result ≡ first_of (pair_conflicts (number table)) (tables book.now) a b }

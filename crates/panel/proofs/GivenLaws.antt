@@ -48,7 +48,8 @@ module _ (text : List ℕ) (start end from to : ℕ) (last : to ≡ min end (len
           rw (none) (take_same 0 (end - start) (drop start text) (rw (size) (left_none start end (length text) short)))
 
 -- A line that is no `name` gives none.
-pub names_kept : (names text : List ℕ) (line : Line) → ((sort : Sort) (n start end : ℕ) → line ≡ Name sort n start end → ⊥) → names ≡ names_after names text line
+pub names_kept : (names text : List ℕ) (line : Line) → ((sort : Sort) (n start end : ℕ) → line ≡ Name sort n start end → ⊥)
+    → names ≡ names_after names text line
 names_kept names text (Name sort n start end) other = absurd (other sort n start end refl)
 names_kept names text Blank other = refl
 names_kept names text (Ask q) other = refl

@@ -106,12 +106,12 @@ impl<'a> Shift<'a> {
             }
             Line::Name(sort, n, _, _) => spoken::named(&mut pen, number, sort, n, how),
             Line::Show => {
-                spoken::begin(pen.paper, number, ",\"show\":\"", "the book\n", how);
+                spoken::begin(pen.paper, number, b",\"show\":\"", b"the book\n", how);
                 shown::book(&mut pen, &self.book);
                 spoken::close(pen.paper, how);
             }
             Line::ShowOne(sort, n) => {
-                spoken::begin(pen.paper, number, ",\"show\":\"", "", how);
+                spoken::begin(pen.paper, number, b",\"show\":\"", b"", how);
                 shown::thing(&mut pen, &self.book, sort, n);
                 spoken::close(pen.paper, how);
             }

@@ -75,7 +75,7 @@ fn bad_mask_in(book: &book::Words, table: Table, owners: u64, known: u64) -> Opt
 
 // Whether the active role of subject r is bad. A word of 0 is never bad.
 fn is_bad_active_at(book: &book::Words, subjects: u64, roles: u64, r: u64) -> bool
-    requires { (r < 64) }
+    requires { r < 64 }
     ensures { result ≡ active_bad (tables book.now) subjects roles r }
 {
     let v = book::row(book, Table::Active, r);
@@ -90,6 +90,7 @@ fn bad_active_in(book: &book::Words, subjects: u64, roles: u64) -> Option<u64>
 }
 
 // The lowest bad row of a table, if it has one.
+// Stays: a match on the table, which says in a line for each what it may hold; closures handed in would say no less, and cost the scan.
 fn bad_row_in(book: &book::Words, table: Table) -> Option<u64>
     ensures { IsLowest (row_bad (tables book.now) (number table)) result }
 {
@@ -108,7 +109,7 @@ fn bad_row_in(book: &book::Words, table: Table) -> Option<u64>
 
 // The cells of an order, joined: 0 where all are 0.
 fn joined_cells(book: &book::Words, order: u64) -> u64
-    requires { (order < 64) }
+    requires { order < 64 }
     ensures { result ≡ joined_cells (tables book.now) order }
 {
     let mut any = 0;
@@ -143,7 +144,7 @@ fn bad_cell_among(book: &book::Words, order: u64, tasks: u64) -> Option<u64>
 
 // The lowest bad cell of an order, if it has one. Most orders are closed, and then all their cells are 0.
 fn bad_cell_in(book: &book::Words, order: u64) -> Option<u64>
-    requires { (order < 64) }
+    requires { order < 64 }
     ensures { IsLowest (cell_bad (tables book.now) order) result }
 {
     let tasks = book::row(book, Table::Orders, order);

@@ -61,6 +61,7 @@ pub fn count(set: u64) -> u64
 }
 
 // The lowest member of the set, by the zero bits below it; 64 where it has none.
+// Stays: 64 for none, as `u64::trailing_zeros` has it and the definition `lowest`; `first` is the Option.
 pub fn lowest(set: u64) -> u64
     ensures { result ≡ lowest (bit set) }
 {

@@ -1,9 +1,9 @@
 // All about one thing: what it is, has, excludes and is bound to, and what is in hand.
 ghost use Rattle.std.specs.Prelude.{ℕ, ◌<◌};
 
-use book::Table;
 use crate::entries;
 use crate::entries::{Entry, Hand, Thing};
+use book::Table;
 use called::Pen;
 use labels::Sort;
 

@@ -7,6 +7,7 @@ use output::Paper;
 use std::convert::AsSlice;
 
 // The most columns that a table has.
+// Stays: one size for all tables, tried: a const parameter in the array of &str, or in what the closure gives, is refused.
 const COLUMNS: usize = 7;
 
 // What stands in a column of a line: a heading, or an entry.

@@ -173,13 +173,14 @@ pub fn named(pen: &mut Pen, line: u64, sort: Sort, n: u64, how: How) {
 }
 
 // Begins a page that a line asked for, with the field that it is in JSON and its first line in plain text ..
-pub fn begin(paper: &mut Paper, line: u64, field: &str, title: &str, how: How) {
+pub fn begin(paper: &mut Paper, line: u64, field: &[u8], title: &[u8], how: How) {
     if how.json {
         json::number(paper, "{\"line\":", line);
-        json::opened(paper, field);
+        paper.bytes(field);
+        paper.quoted(true);
     } else {
         at(paper, line);
-        paper.text(title);
+        paper.bytes(title);
     }
 }
 
@@ -192,14 +193,20 @@ pub fn close(paper: &mut Paper, how: How) {
 
 // The help ..
 pub fn help(paper: &mut Paper, line: u64, how: How) {
-    begin(paper, line, ",\"help\":\"", "the words of the panel\n", how);
+    begin(
+        paper,
+        line,
+        b",\"help\":\"",
+        b"the words of the panel\n",
+        how,
+    );
     manual::page(paper);
     close(paper, how);
 }
 
 // .. and the help on the word of a row.
 pub fn help_on(paper: &mut Paper, line: u64, row: u64, how: How) {
-    begin(paper, line, ",\"help\":\"", "", how);
+    begin(paper, line, b",\"help\":\"", b"", how);
     manual::title(paper, row);
     manual::word(paper, row);
     close(paper, how);

@@ -24,6 +24,7 @@ fn assign_refusal(book: &book::Words, table: Table, a: u64, b: u64) -> Answer
 }
 
 // What conflicts, by the table: tasks of roles, juniors, roles of subjects. A table that nothing is assigned in is refused.
+// Stays: a match on the table, as document 01 lists conflicts by kind; the kinds' tests as closures would be the same three lines elsewhere.
 fn assign_conflict(book: &book::Words, table: Table, a: u64, b: u64) -> Answer
     requires { WellFormed book.now × (a < 64) × (b < 64) }
     ensures { said result ≡ first_of (assign_conflicts (number table)) (tables book.now) a b }

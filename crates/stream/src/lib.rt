@@ -11,7 +11,7 @@
 
 ghost use Rattle.std.specs.Prelude.{◌≡◌, ◌≤◌, ◌==◌, ◌||◌, length, slice_index, unwrap_or};
 ghost use Rattle.std.specs.List.{position};
-ghost use Rattle.stream.specs.Stream.{is_space, fields_behind, new_book, set_word, request, ended, named, command_of, Starts};
+ghost use Rattle.stream.specs.Stream.{is_space, fields_behind, new_book, set_word, request, named, command_of, Starts};
 ghost use Rattle.stream.specs.declared.Command.TheVariants.{Audit, Other};
 
 // The longest book.

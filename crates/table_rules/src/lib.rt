@@ -32,7 +32,8 @@ pub fn is_kept_in_four<F: Fn(Table) -> bool>(is_kept_in: F) -> bool
     requires { (table : Table) → F.pre is_kept_in table }
     ensures { (d : Book) (rule : (ℕ → ℕ) → ℕ → Bool) (t : ℕ) → Asks (F.post is_kept_in) d rule t → result ≡ of_four rule d t }
 {
-    is_kept_in(Table::Sme) & (is_kept_in(Table::Dme) & (is_kept_in(Table::Rb) & is_kept_in(Table::Sb)))
+    is_kept_in(Table::Sme)
+        & (is_kept_in(Table::Dme) & (is_kept_in(Table::Rb) & is_kept_in(Table::Sb)))
 }
 
 // Rules 3, 4 and 5: t's row has none of the others.

@@ -132,7 +132,7 @@ pub fn owned_tasks(book: &book::Words, start: u64) -> u64
 
 // The subject group of task t: chains of SB.
 pub fn subject_group(book: &book::Words, t: u64) -> u64
-    requires { (t < 64) }
+    requires { t < 64 }
     ensures { result ≡ subject_group (tables book.now) t }
 {
     spread(book, Table::Sb, Table::Sb, sets::alone(t), 64)
@@ -148,7 +148,7 @@ pub fn bound_with(book: &book::Words, set: u64) -> u64
 
 // The role group of task t: chains of SB and RB mixed.
 pub fn role_group(book: &book::Words, t: u64) -> u64
-    requires { (t < 64) }
+    requires { t < 64 }
     ensures { result ≡ role_group (tables book.now) t }
 {
     bound_with(book, sets::alone(t))

@@ -14,4 +14,4 @@ returns c =
     let fits = λ (n : _). is_row s.rows.now (s.first + n * s.width) s.width s.word.now in
     find_range s.count fits c.find.result
     (first_from_Range _ _ _ c.find.result (λ n. fits n ≡ true) (λ n. fits n ≡ false) c.find.ensures.ran
-     (λ x q k. search (rules, tests)) (λ x q k. search (rules, tests)))
+    (λ x q k. search (rules, tests)) (λ x q k. search (rules, tests)))
