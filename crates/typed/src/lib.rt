@@ -17,7 +17,7 @@ ghost use Rattle.typed.specs.Words.{part};
 ghost use Rattle.typed.specs.Grammar.{line_said, sort_for, asked, ends, help_at, first_argument, by_number, request_at, show_at};
 ghost use Rattle.typed.specs.Grammar.{is_taken, label_at, named_at, name_at, begun_by, line_of};
 
-use arguments::Fault;
+use arguments::{Fault, Source};
 pub use arguments::{Reason, Takes, wanted};
 use decimal::Unread;
 use labels::Sort;
@@ -68,16 +68,6 @@ pub fn sort_of(word: &[u8]) -> Option<Sort>
     }
 }
 
-// What is said, where the line ends at `at`.
-fn ended(line: &[u8], whole: bool, at: usize, said: Line) -> Result<Line, Fault>
-    ensures { line_said result ≡ ends line.now whole at said }
-{
-    match arguments::next_word(line, whole, at)? {
-        Some(word) => Err(Reason::TooMany.at(word.start)),
-        None => Ok(said),
-    }
-}
-
 // The request, asked or only tried.
 fn ask(trial: bool, kind: u64, a: u64, b: u64, c: u64) -> Line
     ensures { result ≡ asked trial kind a b c }
@@ -88,92 +78,11 @@ fn ask(trial: bool, kind: u64, a: u64, b: u64, c: u64) -> Line
     Line::Ask(Request { kind, a, b, c })
 }
 
-// The rest of the request, once its kind is read.
-fn of_kind(
-    line: &[u8],
-    whole: bool,
-    names: &[u8],
-    trial: bool,
-    kind: u64,
-    at: usize,
-) -> Result<Line, Fault>
-    ensures { line_said result ≡ first_argument line.now whole names.now trial kind at }
-{
-    let takes = wanted(kind);
-    let (a, at) = arguments::read_argument(line, whole, names, takes.0, at)?;
-    let (b, at) = arguments::read_argument(line, whole, names, takes.1, at)?;
-    let (c, at) = arguments::read_argument(line, whole, names, takes.2, at)?;
-    ended(line, whole, at, ask(trial, kind, a, b, c))
-}
-
-// A request whose kind is given as a number.
-fn numbered(
-    line: &[u8],
-    whole: bool,
-    names: &[u8],
-    trial: bool,
-    start: usize,
-    end: usize,
-) -> Result<Line, Fault>
-    requires { (start ≤ end) × (end ≤ length line.now) }
-    ensures { line_said result ≡ by_number line.now whole names.now trial start end (number_of (part start end line.now)) }
-{
-    match decimal::read(&line[start..end]) {
-        Ok(kind) => of_kind(line, whole, names, trial, kind, end),
-        Err(Unread::TooLarge) => Err(Reason::TooLarge.at(start)),
-        Err(Unread::NotDecimal) => Err(Reason::UnknownWord.at(start)),
-    }
-}
-
 // The kind that a word of the panel names, if it names one.
 fn kind_of(word: &[u8]) -> Option<u64>
     ensures { SomeIff result (0 < kind_of (row_for word.now)) (kind_of (row_for word.now)) }
 {
     vocabulary::kind_of(vocabulary::find(word)?)
-}
-
-// The request that stands from `at` on.
-fn read_request(
-    line: &[u8],
-    whole: bool,
-    names: &[u8],
-    trial: bool,
-    at: usize,
-) -> Result<Line, Fault>
-    ensures { line_said result ≡ request_at line.now whole names.now trial at }
-{
-    let word = arguments::needed_word(line, whole, at)?;
-    match kind_of(&line[word.start..word.end]) {
-        Some(kind) => of_kind(line, whole, names, trial, kind, word.end),
-        None => numbered(line, whole, names, trial, word.start, word.end),
-    }
-}
-
-// `show` alone, or with a sort and one of it; the word `show` ends before `at`.
-fn show(line: &[u8], whole: bool, names: &[u8], at: usize) -> Result<Line, Fault>
-    ensures { line_said result ≡ show_at line.now whole names.now at }
-{
-    let Some(word) = arguments::next_word(line, whole, at)? else {
-        return Ok(Line::Show);
-    };
-    let Some(sort) = sort_of(&line[word.start..word.end]) else {
-        return Err(Reason::NotSort.at(word.start));
-    };
-    let (n, behind) = arguments::thing(line, whole, names, sort, word.end)?;
-    ended(line, whole, behind, Line::ShowOne(sort, n))
-}
-
-// `help` alone, or with a word of the panel.
-fn help(line: &[u8], whole: bool, at: usize) -> Result<Line, Fault>
-    ensures { line_said result ≡ help_at line.now whole at }
-{
-    let Some(word) = arguments::next_word(line, whole, at)? else {
-        return Ok(Line::Help);
-    };
-    let Some(row) = vocabulary::find(&line[word.start..word.end]) else {
-        return Err(Reason::UnknownWord.at(word.start));
-    };
-    ended(line, whole, word.end, Line::HelpOn(row))
 }
 
 // Whether another thing of the sort than n has the name.
@@ -186,80 +95,142 @@ fn is_taken(names: &[u8], sort: Sort, n: u64, name: &[u8]) -> bool
     }
 }
 
-// The name from `at` on, for thing n of the sort.
-fn label(
-    line: &[u8],
-    whole: bool,
-    names: &[u8],
-    sort: Sort,
-    n: u64,
-    at: usize,
-) -> Result<Line, Fault>
-    ensures { line_said result ≡ label_at line.now whole names.now sort n at }
-{
-    let word = arguments::needed_word(line, whole, at)?;
-    let name = &line[word.start..word.end];
-    if !labels::is_name(name) {
-        return Err(Reason::NotName.at(word.start));
+impl<'a> Source<'a> {
+    // What is said, where the line ends at `at`.
+    fn ended(self, at: usize, said: Line) -> Result<Line, Fault>
+        ensures { line_said result ≡ ends self.entry.line.now self.entry.whole at said }
+    {
+        match self.next_word(at)? {
+            Some(word) => Err(Reason::TooMany.at(word.start)),
+            None => Ok(said),
+        }
     }
-    if is_taken(names, sort, n, name) {
-        return Err(Reason::Taken.at(word.start));
-    }
-    ended(
-        line,
-        whole,
-        word.end,
-        Line::Name(sort, n, word.start, word.end),
-    )
-}
 
-// The thing from `at` on, whose number is 0 to 63, and then its name.
-fn named(line: &[u8], whole: bool, names: &[u8], sort: Sort, at: usize) -> Result<Line, Fault>
-    ensures { line_said result ≡ named_at line.now whole names.now sort at }
-{
-    let (n, behind) = arguments::thing(line, whole, names, sort, at)?;
-    if n < 64 {
-        return label(line, whole, names, sort, n, behind);
+    // The rest of the request, once its kind is read.
+    fn of_kind(self, trial: bool, kind: u64, at: usize) -> Result<Line, Fault>
+        ensures { line_said result ≡ first_argument self.entry.line.now self.entry.whole self.entry.names.now trial kind at }
+    {
+        let takes = wanted(kind);
+        let (a, at) = self.argument(takes.0, at)?;
+        let (b, at) = self.argument(takes.1, at)?;
+        let (c, at) = self.argument(takes.2, at)?;
+        self.ended(at, ask(trial, kind, a, b, c))
     }
-    Err(Reason::NotInRange.at(next(line, at, whole).start))
-}
 
-// `name`, a sort, one of it and its name.
-fn name(line: &[u8], whole: bool, names: &[u8], at: usize) -> Result<Line, Fault>
-    ensures { line_said result ≡ name_at line.now whole names.now at }
-{
-    let word = arguments::needed_word(line, whole, at)?;
-    match sort_of(&line[word.start..word.end]) {
-        Some(sort) => named(line, whole, names, sort, word.end),
-        None => Err(Reason::NotSort.at(word.start)),
+    // A request whose kind is given as a number.
+    fn numbered(self, trial: bool, start: usize, end: usize) -> Result<Line, Fault>
+        requires { (start ≤ end) × (end ≤ length self.line.now) }
+        ensures { line_said result ≡ by_number self.entry.line.now self.entry.whole self.entry.names.now trial start end
+            (number_of (part start end self.entry.line.now)) }
+    {
+        match decimal::read(&self.line[start..end]) {
+            Ok(kind) => self.of_kind(trial, kind, end),
+            Err(Unread::TooLarge) => Err(Reason::TooLarge.at(start)),
+            Err(Unread::NotDecimal) => Err(Reason::UnknownWord.at(start)),
+        }
     }
-}
 
-// What the line says that begins with the word of a row, which ends before `end`.
-fn begun(line: &[u8], whole: bool, names: &[u8], row: u64, end: usize) -> Result<Line, Fault>
-    ensures { line_said result ≡ begun_by line.now whole names.now row end }
-{
-    match row {
-        vocabulary::SHOW => show(line, whole, names, end),
-        vocabulary::AUDIT => ended(line, whole, end, Line::Audit),
-        vocabulary::HELP => help(line, whole, end),
-        vocabulary::QUIT => ended(line, whole, end, Line::Quit),
-        vocabulary::NAME => name(line, whole, names, end),
-        vocabulary::TRY => read_request(line, whole, names, true, end),
-        _ => read_request(line, whole, names, false, 0),
+    // The request that stands from `at` on.
+    fn read_request(self, trial: bool, at: usize) -> Result<Line, Fault>
+        ensures { line_said result ≡ request_at self.entry.line.now self.entry.whole self.entry.names.now trial at }
+    {
+        let word = self.needed_word(at)?;
+        match kind_of(&self.line[word.start..word.end]) {
+            Some(kind) => self.of_kind(trial, kind, word.end),
+            None => self.numbered(trial, word.start, word.end),
+        }
     }
-}
 
-// What the line says, or what is wrong with it.
-fn read_line(line: &[u8], whole: bool, names: &[u8]) -> Result<Line, Fault>
-    ensures { line_said result ≡ line_of line.now whole names.now }
-{
-    let Some(word) = arguments::next_word(line, whole, 0)? else {
-        return Ok(Line::Blank);
-    };
-    match vocabulary::find(&line[word.start..word.end]) {
-        Some(row) => begun(line, whole, names, row, word.end),
-        None => read_request(line, whole, names, false, 0),
+    // `show` alone, or with a sort and one of it; the word `show` ends before `at`.
+    fn show(self, at: usize) -> Result<Line, Fault>
+        ensures { line_said result ≡ show_at self.entry.line.now self.entry.whole self.entry.names.now at }
+    {
+        let Some(word) = self.next_word(at)? else {
+            return Ok(Line::Show);
+        };
+        let Some(sort) = sort_of(&self.line[word.start..word.end]) else {
+            return Err(Reason::NotSort.at(word.start));
+        };
+        let (n, behind) = self.thing(sort, word.end)?;
+        self.ended(behind, Line::ShowOne(sort, n))
+    }
+
+    // `help` alone, or with a word of the panel.
+    fn help(self, at: usize) -> Result<Line, Fault>
+        ensures { line_said result ≡ help_at self.entry.line.now self.entry.whole at }
+    {
+        let Some(word) = self.next_word(at)? else {
+            return Ok(Line::Help);
+        };
+        let Some(row) = vocabulary::find(&self.line[word.start..word.end]) else {
+            return Err(Reason::UnknownWord.at(word.start));
+        };
+        self.ended(word.end, Line::HelpOn(row))
+    }
+
+    // The name from `at` on, for thing n of the sort.
+    fn label(self, sort: Sort, n: u64, at: usize) -> Result<Line, Fault>
+        ensures { line_said result ≡ label_at self.entry.line.now self.entry.whole self.entry.names.now sort n at }
+    {
+        let word = self.needed_word(at)?;
+        let name = &self.line[word.start..word.end];
+        if !labels::is_name(name) {
+            return Err(Reason::NotName.at(word.start));
+        }
+        if is_taken(self.names, sort, n, name) {
+            return Err(Reason::Taken.at(word.start));
+        }
+        self.ended(word.end, Line::Name(sort, n, word.start, word.end))
+    }
+
+    // The thing from `at` on, whose number is 0 to 63, and then its name.
+    fn named(self, sort: Sort, at: usize) -> Result<Line, Fault>
+        ensures { line_said result ≡ named_at self.entry.line.now self.entry.whole self.entry.names.now sort at }
+    {
+        let (n, behind) = self.thing(sort, at)?;
+        if n < 64 {
+            return self.label(sort, n, behind);
+        }
+        Err(Reason::NotInRange.at(next(self.line, at, self.whole).start))
+    }
+
+    // `name`, a sort, one of it and its name.
+    fn name(self, at: usize) -> Result<Line, Fault>
+        ensures { line_said result ≡ name_at self.entry.line.now self.entry.whole self.entry.names.now at }
+    {
+        let word = self.needed_word(at)?;
+        match sort_of(&self.line[word.start..word.end]) {
+            Some(sort) => self.named(sort, word.end),
+            None => Err(Reason::NotSort.at(word.start)),
+        }
+    }
+
+    // What the line says that begins with the word of a row, which ends before `end`.
+    fn begun(self, row: u64, end: usize) -> Result<Line, Fault>
+        ensures { line_said result ≡ begun_by self.entry.line.now self.entry.whole self.entry.names.now row end }
+    {
+        match row {
+            vocabulary::SHOW => self.show(end),
+            vocabulary::AUDIT => self.ended(end, Line::Audit),
+            vocabulary::HELP => self.help(end),
+            vocabulary::QUIT => self.ended(end, Line::Quit),
+            vocabulary::NAME => self.name(end),
+            vocabulary::TRY => self.read_request(true, end),
+            _ => self.read_request(false, 0),
+        }
+    }
+
+    // What the line says, or what is wrong with it.
+    fn read_line(self) -> Result<Line, Fault>
+        ensures { line_said result ≡ line_of self.entry.line.now self.entry.whole self.entry.names.now }
+    {
+        let Some(word) = self.next_word(0)? else {
+            return Ok(Line::Blank);
+        };
+        match vocabulary::find(&self.line[word.start..word.end]) {
+            Some(row) => self.begun(row, word.end),
+            None => self.read_request(false, 0),
+        }
     }
 }
 
@@ -267,7 +238,7 @@ fn read_line(line: &[u8], whole: bool, names: &[u8]) -> Result<Line, Fault>
 pub fn read(line: &[u8], whole: bool, names: &[u8]) -> Line
     ensures { result ≡ line_of line.now whole names.now }
 {
-    match read_line(line, whole, names) {
+    match (Source { line, whole, names }).read_line() {
         Ok(said) => said,
         Err(fault) => Line::Fault(fault.reason, fault.start),
     }
