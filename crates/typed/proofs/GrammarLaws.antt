@@ -14,7 +14,8 @@ use Rattle.labels.specs.Names.{sort_number, is_name, found}
 use Rattle.vocabulary.specs.Vocabulary.{show_row, audit_row, help_row, quit_row, name_row, try_row, row_count, row_for, kind_of}
 use Rattle.typed.specs.Words.{start_from, span_from, part}
 use Rattle.typed.specs.Arguments.{Argument, Is, fault_at, WordRead, IsCut, IsOver, thing_at, argument_at, wanted}
-use Rattle.typed.specs.Grammar.{line_said, sort_at, sort_for, asked, by_sort, following, by_next, ends, help_on, third_argument, second_argument, first_argument}
+use Rattle.typed.specs.Grammar.{line_said, sort_at, sort_for, asked, by_sort, following, by_next, ends, help_on}
+use Rattle.typed.specs.Grammar.{third_argument, second_argument, first_argument}
 use Rattle.typed.specs.Grammar.{by_number, by_kind, show_of, is_taken, labelled, label_at, named_at, name_of}
 use Rattle.typed.specs.Grammar.{show_at, help_at, name_at, request_at, begun_by, line_of}
 use Rattle.typed.proofs.WordLaws.{starts, passed_up, said_cut, said_over, said_neither, said_there}
@@ -114,31 +115,38 @@ module _ (line : List ℕ) (whole : Bool) (start end : ℕ) (word : List ℕ) wh
 module _ (line : List ℕ) (whole : Bool) (names : List ℕ) where
   -- The arguments of a request, each of the sort that the kind takes at that place.
   module _ (trial : Bool) (kind : ℕ) (takes : Takes) (e : takes ≡ wanted kind) (at : ℕ) where
+    -- what is read as the sort that stands at one of the places
+    of_sort : (place : Takes → Sort) → argument_at line whole names (place takes) at ≡ argument_at line whole names (place (wanted kind)) at
+    of_sort place = ap (λ (t : Takes). argument_at line whole names (place t) at) e
+
     module _ (a b : ℕ) where
-      pub third_is : (c behind : ℕ) → Is c behind ≡ argument_at line whole names takes.2 at → ends line whole behind (asked trial kind a b c) ≡ third_argument line whole names trial kind a b at
+      pub third_is : (c behind : ℕ) → Is c behind ≡ argument_at line whole names takes.2 at
+          → ends line whole behind (asked trial kind a b c) ≡ third_argument line whole names trial kind a b at
       unfolding third_argument
-      third_is c behind q = follow (λ c behind. ends line whole behind (asked trial kind a b c)) _ c behind (q ∙ ap (λ (t : Takes). argument_at line whole names t.2 at) e)
+      third_is c behind q = follow (λ c behind. ends line whole behind (asked trial kind a b c)) _ c behind (q ∙ of_sort (λ t. t.2))
 
       pub third_bad : (f : Wrong) → Err f ≡ argument_at line whole names takes.2 at → fault_said f ≡ third_argument line whole names trial kind a b at
       unfolding third_argument
-      third_bad f q = follow_bad _ _ f (q ∙ ap (λ (t : Takes). argument_at line whole names t.2 at) e)
+      third_bad f q = follow_bad _ _ f (q ∙ of_sort (λ t. t.2))
 
     module _ (a : ℕ) where
-      pub second_is : (b behind : ℕ) → Is b behind ≡ argument_at line whole names takes.1 at → third_argument line whole names trial kind a b behind ≡ second_argument line whole names trial kind a at
+      pub second_is : (b behind : ℕ) → Is b behind ≡ argument_at line whole names takes.1 at
+          → third_argument line whole names trial kind a b behind ≡ second_argument line whole names trial kind a at
       unfolding second_argument
-      second_is b behind q = follow (λ b behind. third_argument line whole names trial kind a b behind) _ b behind (q ∙ ap (λ (t : Takes). argument_at line whole names t.1 at) e)
+      second_is b behind q = follow (λ b behind. third_argument line whole names trial kind a b behind) _ b behind (q ∙ of_sort (λ t. t.1))
 
       pub second_bad : (f : Wrong) → Err f ≡ argument_at line whole names takes.1 at → fault_said f ≡ second_argument line whole names trial kind a at
       unfolding second_argument
-      second_bad f q = follow_bad _ _ f (q ∙ ap (λ (t : Takes). argument_at line whole names t.1 at) e)
+      second_bad f q = follow_bad _ _ f (q ∙ of_sort (λ t. t.1))
 
-    pub first_is : (a behind : ℕ) → Is a behind ≡ argument_at line whole names takes.0 at → second_argument line whole names trial kind a behind ≡ first_argument line whole names trial kind at
+    pub first_is : (a behind : ℕ) → Is a behind ≡ argument_at line whole names takes.0 at
+        → second_argument line whole names trial kind a behind ≡ first_argument line whole names trial kind at
     unfolding first_argument
-    first_is a behind q = follow (λ a behind. second_argument line whole names trial kind a behind) _ a behind (q ∙ ap (λ (t : Takes). argument_at line whole names t.0 at) e)
+    first_is a behind q = follow (λ a behind. second_argument line whole names trial kind a behind) _ a behind (q ∙ of_sort (λ t. t.0))
 
     pub first_bad : (f : Wrong) → Err f ≡ argument_at line whole names takes.0 at → fault_said f ≡ first_argument line whole names trial kind at
     unfolding first_argument
-    first_bad f q = follow_bad _ _ f (q ∙ ap (λ (t : Takes). argument_at line whole names t.0 at) e)
+    first_bad f q = follow_bad _ _ f (q ∙ of_sort (λ t. t.0))
 
   -- A request that begins with a word: of no kind, or of a kind.
   module _ (trial : Bool) (start end : ℕ) (word : List ℕ) where

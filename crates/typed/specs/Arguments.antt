@@ -1,7 +1,7 @@
--- The arguments of a request: numbers, names of things, and masks of tasks. Every definition here computes.
+-- The arguments of a request: numbers, names of things, and masks of tasks. Every definition here computes, but for what WordRead says of a word.
 -- `line` are the bytes of the line, `whole` says whether they are all of it, `names` is the table of names, `at` is where to read on.
-use Rattle.std.specs.Prelude.{◌≡◌, Bool, true, false, ◌&&◌, List, [], ◌∷◌, ℕ, zero, suc, ◌<◌, ◌≤◌, ltb, length, get_or, Option, Result, Ok, Err, MatchOption, MatchResult}
-use Rattle.std.specs.Prelude.{◌⊎◌}
+use Rattle.std.specs.Prelude.{◌≡◌, Bool, true, false, ◌&&◌, ◌⊎◌, List, [], ◌∷◌, ℕ, zero, suc, ◌<◌, ◌≤◌, ltb, length, get_or}
+use Rattle.std.specs.Prelude.{Option, Result, Ok, Err, MatchOption, MatchResult}
 use Rattle.sets.specs.Mask.{with}
 use Rattle.decimal.specs.Decimal.{number_of}
 use Rattle.decimal.specs.declared.Unread.{Unread}
