@@ -10,10 +10,10 @@ use borrow.Author.Tests.{lt-ltb, le-ltb}
 use Rattle.sets.specs.Mask.{with}
 use Rattle.labels.specs.Names.{sort_number, is_name, found}
 use Rattle.typed.specs.Words.{start_from, word_at, span_from, by_word}
-use Rattle.typed.proofs.WordLaws.{starts, ends, bytes_of, said_of, word_cut, word_missing, word_there}
-use Rattle.typed.specs.Arguments.{Argument, Is, Not, takes, table, wanted, called_by, counts, value_of, placed_at, number_at, thing_at}
-use Rattle.typed.specs.Arguments.{added_to, tasks_from, is_tasks, listed, mask_at, argument_at}
-use Rattle.typed.specs.declared.arguments.Reason.TheVariants.{TooFew, TooLong, UnknownName, NotInRange}
+use Rattle.typed.proofs.WordLaws.{starts, ends, bytes_of, said_of, said_cut, said_over, said_there}
+use Rattle.typed.specs.Arguments.{Argument, Is, Not, takes, table, wanted, called_by, counts, value_of, thing_at}
+use Rattle.typed.specs.Arguments.{WordRead, IsCut, IsOver, added_to, tasks_from, is_tasks, listed, mask_at, argument_at}
+use Rattle.typed.specs.declared.arguments.Reason.TheVariants.{TooLong, UnknownName, NotInRange}
 use Rattle.std.proofs.Common.{Ok, Err, Option, Some, None}
 use Rattle.std.specs.Option.{SomeIff, ok_or}
 use Rattle.labels.specs.declared.Sort.{Sort}
@@ -56,45 +56,13 @@ module _ (names : List ℕ) (sort : Sort) (word : List ℕ) (s t : Bool) (d : s 
   unfolding value_of
   by_number_lem h = rw (value_of, sym d, sym e, h)
 
--- An argument that is read from a word w: the word is cut, missing, or there.
-module _ (line : List ℕ) (whole : Bool) (at : ℕ) (w : Span) (e : w ≡ span_from line at whole) where
-  too_long : Not TooLong w.start ≡ Not TooLong (start_from line at)
-  too_long = ap (Not TooLong) (starts line whole at w e)
-
-  pub number_there : w.cut ≡ false → (w.start ≡ w.end → ⊥) →
-      placed_at (counts (bytes_of line whole at w e)) w.start w.end ≡ number_at line whole at
-  unfolding number_at
-  number_there t o = said_of line whole at w e (λ s u b. placed_at (counts b) s u) ∙ word_there line whole at w e _ _ _ t o
-
-  pub thing_there : (names : List ℕ) (sort : Sort) → w.cut ≡ false → (w.start ≡ w.end → ⊥) →
-      placed_at (value_of names sort (bytes_of line whole at w e)) w.start w.end ≡ thing_at line whole names sort at
-  unfolding thing_at
-  thing_there names sort t o = said_of line whole at w e (λ s u b. placed_at (value_of names sort b) s u) ∙ word_there line whole at w e _ _ _ t o
-
-  pub number_cut : w.cut ≡ true → Not TooLong w.start ≡ number_at line whole at
-  unfolding number_at
-  number_cut t = too_long ∙ word_cut line whole at w e _ _ _ t
-
-  pub number_missing : w.cut ≡ false → w.start ≡ w.end → Is 0 at ≡ number_at line whole at
-  unfolding number_at
-  number_missing t o = word_missing line whole at w e _ _ _ t o
-
-  module _ (names : List ℕ) (sort : Sort) where
-    pub thing_cut : w.cut ≡ true → Not TooLong w.start ≡ thing_at line whole names sort at
-    unfolding thing_at
-    thing_cut t = too_long ∙ word_cut line whole at w e _ _ _ t
-
-    pub thing_missing : w.cut ≡ false → w.start ≡ w.end → Not TooFew w.start ≡ thing_at line whole names sort at
-    unfolding thing_at
-    thing_missing t o = ap (Not TooFew) (starts line whole at w e) ∙ word_missing line whole at w e _ _ _ t o
-
 -- Where no steps are left, the set is as it is.
 pub tasks_none : (line : List ℕ) (whole : Bool) (names : List ℕ) (steps set at : ℕ) → steps ≡ 0 → Is set at ≡ tasks_from line whole names steps set at
 unfolding tasks_from
 tasks_none line whole names steps set at h = rw (h)
 
--- One task more of a list of tasks, whose word is w.
-module _ (line : List ℕ) (whole : Bool) (names : List ℕ) (steps set at : ℕ) (some : steps ≡ 0 → ⊥) (w : Span) (e : w ≡ span_from line at whole) where
+-- One task more of a list of tasks.
+module _ (line : List ℕ) (whole : Bool) (names : List ℕ) (steps set at : ℕ) (some : steps ≡ 0 → ⊥) where
   one_less : steps ≡ suc (steps - 1)
   one_less = omega arith
 
@@ -107,31 +75,32 @@ module _ (line : List ℕ) (whole : Bool) (names : List ℕ) (steps set at : ℕ
   unfolding tasks_from
   one_more = ap (λ (n : ℕ). tasks_from line whole names n set at) (sym one_less)
 
-  pub tasks_cut : w.cut ≡ true → Not TooLong w.start ≡ tasks_from line whole names steps set at
-  tasks_cut t = too_long line whole at w e ∙ word_cut line whole at w e _ _ _ t ∙ one_more
+  pub tasks_cut : (fault : Fault) → IsCut line whole at fault → Err fault ≡ tasks_from line whole names steps set at
+  tasks_cut fault h = said_cut line whole at Err fault h _ _ ∙ one_more
 
-  pub tasks_over : w.cut ≡ false → w.start ≡ w.end → Is set at ≡ tasks_from line whole names steps set at
-  tasks_over t o = word_missing line whole at w e _ _ _ t o ∙ one_more
+  pub tasks_over : IsOver line whole at → Is set at ≡ tasks_from line whole names steps set at
+  tasks_over h = said_over line whole at h _ _ _ ∙ one_more
 
-  module _ (t : w.cut ≡ false) (o : w.start ≡ w.end → ⊥) where
-    there : (a : Argument) → thing_at line whole names Task at ≡ a → added a ≡ tasks_from line whole names steps set at
-    there a q = ap added (sym q) ∙ word_there line whole at w e _ _ _ t o ∙ one_more
+  -- Its word is w.
+  module _ (w : Span) (h : WordRead line whole at w) where
+    there : (a : Argument) → a ≡ thing_at line whole names Task at → added a ≡ tasks_from line whole names steps set at
+    there a q = ap added q ∙ said_there line whole at w h (λ start end bytes. added (thing_at line whole names Task at)) _ _ ∙ one_more
 
-    pub tasks_more : (n behind : ℕ) → thing_at line whole names Task at ≡ Is n behind → n < 64 → (more : ℕ) → more ≡ with set n →
+    pub tasks_more : (n behind : ℕ) → Is n behind ≡ thing_at line whole names Task at → n < 64 → (more : ℕ) → more ≡ with set n →
         tasks_from line whole names (steps - 1) more behind ≡ tasks_from line whole names steps set at
     unfolding added_to
-    tasks_more n behind q h m g =
-        let more : tasks_from line whole names (steps - 1) m behind ≡ added (Is n behind) = rw (added_to, lt-ltb n 64 h, g) in
+    tasks_more n behind q l m g =
+        let more : tasks_from line whole names (steps - 1) m behind ≡ added (Is n behind) = rw (added_to, lt-ltb n 64 l, g) in
         more ∙ there _ q
 
-    pub tasks_range : (n behind : ℕ) → thing_at line whole names Task at ≡ Is n behind → 64 ≤ n →
+    pub tasks_range : (n behind : ℕ) → Is n behind ≡ thing_at line whole names Task at → 64 ≤ n →
         Not NotInRange w.start ≡ tasks_from line whole names steps set at
     unfolding added_to
-    tasks_range n behind q h =
-        let none : Not NotInRange (start_from line at) ≡ added (Is n behind) = rw (added_to, le-ltb n 64 h) in
-        ap (Not NotInRange) (starts line whole at w e) ∙ none ∙ there _ q
+    tasks_range n behind q l =
+        let none : Not NotInRange (start_from line at) ≡ added (Is n behind) = rw (added_to, le-ltb n 64 l) in
+        ap (Not NotInRange) (starts line whole at w h.from_at) ∙ none ∙ there _ q
 
-    pub tasks_bad : (f : Fault) → thing_at line whole names Task at ≡ Err f → Err f ≡ tasks_from line whole names steps set at
+    pub tasks_bad : (f : Fault) → Err f ≡ thing_at line whole names Task at → Err f ≡ tasks_from line whole names steps set at
     unfolding added_to
     tasks_bad f q = there _ q
 

@@ -1,6 +1,7 @@
--- The arguments of a request: numbers, names of things, and masks of tasks. Every definition here computes.
+-- The arguments of a request: numbers, names of things, and masks of tasks. Every definition here computes, but for what WordRead says of a word.
 -- `line` are the bytes of the line, `whole` says whether they are all of it, `names` is the table of names, `at` is where to read on.
-use Rattle.std.specs.Prelude.{Bool, true, false, ◌&&◌, List, [], ◌∷◌, ℕ, zero, suc, ltb, get_or, Result, Ok, Err}
+use Rattle.std.specs.Prelude.{◌≡◌, Bool, true, false, ◌&&◌, ◌⊎◌, List, [], ◌∷◌, ℕ, zero, suc, ◌<◌, ◌≤◌, ltb, length, get_or}
+use Rattle.std.specs.Prelude.{Option, Result, Ok, Err, MatchOption, MatchResult}
 use Rattle.sets.specs.Mask.{with}
 use Rattle.decimal.specs.Decimal.{number_of}
 use Rattle.decimal.specs.declared.Unread.{Unread}
@@ -10,15 +11,20 @@ use Rattle.text.specs.Written.{written}
 use Rattle.labels.specs.declared.Sort.{Sort}
 use Rattle.labels.specs.declared.Sort.TheVariants.{Task, Role, Person, Order, Unused, Any, Mask}
 use Rattle.labels.specs.Names.{sort_number, is_name, found}
-use Rattle.typed.specs.Words.{start_from, end_from, word_at, by_word}
+use Rattle.typed.specs.Words.{start_from, end_from, is_cut, span_from, word_at, by_word}
 use Rattle.typed.specs.declared.arguments.Reason.TheVariants.{NotNumber, TooLarge, TooFew, TooLong, UnknownName, NotInRange}
 use Rattle.typed.specs.declared.arguments.Takes.{Takes}
 use Rattle.typed.specs.declared.arguments.Reason.{Reason}
 use Rattle.typed.specs.declared.arguments.Fault.{Fault}
+use Rattle.typed.specs.declared.words.Span.{Span}
 
 -- What a word stands for: a number, or what is wrong.
 abbrev pub Value : Type 0
 Value = Result ℕ Reason
+
+-- what is wrong with the word that starts there
+abbrev pub fault_at : Reason → ℕ → Fault
+fault_at reason start = record { reason = reason; start = start }
 
 -- An argument, with where the line goes on behind it; or what is wrong, with where the word stands.
 abbrev pub Argument : Type 0
@@ -28,7 +34,7 @@ abbrev pub Is : ℕ → ℕ → Argument
 Is n behind = Ok (n, behind)
 
 abbrev pub Not : Reason → ℕ → Argument
-Not reason start = Err (record { reason = reason; start = start })
+Not reason start = Err (fault_at reason start)
 
 -- a row of the table: what a kind takes as a, b and c
 abbrev pub takes : Sort → Sort → Sort → Takes
@@ -64,6 +70,33 @@ table =
 -- what a kind takes
 unfoldable pub wanted : ℕ → Takes
 wanted kind = get_or table kind (takes Any Any Any)
+
+-- the word was read: it is the one from `at` on, the line is not cut there, it has a byte or more, and it lies within the line
+pub record WordRead (line : List ℕ) (whole : Bool) (at : ℕ) (word : Span) : Type 0 where
+  pub from_at : word ≡ span_from line at whole
+  pub not_cut : word.cut ≡ false
+  pub not_empty : word.start < word.end
+  pub within : word.end ≤ length line
+
+-- the line is cut from `at` on, which makes it too long
+abbrev pub IsCut : List ℕ → Bool → ℕ → Fault → Type 0
+IsCut line whole at fault = (is_cut line whole at ≡ true) × (fault ≡ fault_at TooLong (start_from line at))
+
+-- it is not, and has no word more
+abbrev pub IsOver : List ℕ → Bool → ℕ → Type 0
+IsOver line whole at = (is_cut line whole at ≡ false) × (start_from line at ≡ end_from line at)
+
+-- the word from `at` on, if there is one
+abbrev pub NextWord : List ℕ → Bool → ℕ → Result (Option Span) Fault → Type 0
+NextWord line whole at result =
+    MatchResult result (λ next. MatchOption next (IsOver line whole at) (λ word. WordRead line whole at word))
+    (λ fault. IsCut line whole at fault)
+
+-- .. where there must be one
+abbrev pub NeededWord : List ℕ → Bool → ℕ → Result Span Fault → Type 0
+NeededWord line whole at result =
+    MatchResult result (λ word. WordRead line whole at word)
+    (λ fault. IsCut line whole at fault ⊎ (IsOver line whole at × (fault ≡ fault_at TooFew (start_from line at))))
 
 -- the word as a name of the sort
 unfoldable pub called_by : List ℕ → Sort → List ℕ → Value

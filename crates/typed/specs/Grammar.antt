@@ -17,6 +17,7 @@ use Rattle.vocabulary.specs.Vocabulary.{show_row, audit_row, help_row, quit_row,
 use Rattle.typed.specs.Words.{start_from, end_from, word_at, by_word}
 use Rattle.typed.specs.Arguments.{Argument, thing_at, argument_at, wanted}
 use Rattle.typed.specs.declared.arguments.Reason.TheVariants.{UnknownWord, TooLarge, TooFew, TooMany, TooLong, NotSort, NotName, Taken, NotInRange}
+use Rattle.typed.specs.declared.arguments.Fault.{Fault as Wrong}
 use Rattle.typed.specs.declared.Line.{Line}
 use Rattle.typed.specs.declared.Line.TheVariants.{Blank, Ask, Try, Name, Show, ShowOne, Audit, Help, HelpOn, Quit, Fault}
 
@@ -44,6 +45,11 @@ by_sort (Some sort) missing there = there sort
 unfoldable pub asked : Bool → ℕ → ℕ → ℕ → ℕ → Line
 asked trial kind a b c =
     elim trial [ true ↦ Try (record { kind = kind; a = a; b = b; c = c }) | false ↦ Ask (record { kind = kind; a = a; b = b; c = c }) ]
+
+-- the line that is said, of what reading gave: that line, or the fault
+unfoldable pub line_said : Result Line Wrong → Line
+line_said (Ok said) = said
+line_said (Err fault) = Fault fault.reason fault.start
 
 -- what follows from an argument: `rest` of its value and of where the line goes on, or the fault
 unfoldable pub following : (ℕ → ℕ → Line) → Argument → Line

@@ -2,9 +2,9 @@
 ghost use Rattle.std.specs.Prelude.{◌≡◌, ltb};
 ghost use Rattle.labels.specs.Names.{sort_number};
 ghost use Rattle.typed.specs.Arguments.{value_of, called_by, counts, placed_at, thing_at, number_at, is_tasks, tasks_from, mask_at, argument_at};
-ghost use Rattle.typed.specs.Arguments.{wanted};
+ghost use Rattle.typed.specs.Arguments.{fault_at, NextWord, NeededWord, wanted};
 
-use crate::words;
+use crate::words::{self, Span};
 use decimal::Unread;
 use labels::Sort;
 
@@ -39,6 +39,18 @@ pub enum Reason {
 pub struct Fault {
     pub reason: Reason,
     pub start: usize,
+}
+
+impl Reason {
+    // The fault of a word that starts there.
+    pub(crate) fn at(self, start: usize) -> Fault
+        ensures { result ≡ fault_at self start }
+    {
+        Fault {
+            reason: self,
+            start,
+        }
+    }
 }
 
 // What a kind takes as a, b and c.
@@ -126,92 +138,7 @@ fn placed(value: Result<u64, Reason>, start: usize, end: usize) -> Result<(u64, 
 {
     match value {
         Ok(n) => Ok((n, end)),
-        Err(reason) => Err(Fault { reason, start }),
-    }
-}
-
-// The word from `at` on, which must be there, as a thing of the sort; of a sort without names as a number.
-pub fn thing(
-    line: &[u8],
-    whole: bool,
-    names: &[u8],
-    sort: Sort,
-    at: usize,
-) -> Result<(u64, usize), Fault>
-    ensures { result ≡ thing_at line.now whole names.now sort at }
-{
-    let word = words::next(line, at, whole);
-    let start = word.start;
-    let end = word.end;
-    if word.cut {
-        return Err(Fault {
-            reason: Reason::TooLong,
-            start,
-        });
-    }
-    if start == end {
-        return Err(Fault {
-            reason: Reason::TooFew,
-            start,
-        });
-    }
-    placed(stands_for(names, sort, &line[start..end]), start, end)
-}
-
-// The word from `at` on as a number; 0 where there is none.
-fn number(line: &[u8], whole: bool, at: usize) -> Result<(u64, usize), Fault>
-    ensures { result ≡ number_at line.now whole at }
-{
-    let word = words::next(line, at, whole);
-    let start = word.start;
-    let end = word.end;
-    if word.cut {
-        return Err(Fault {
-            reason: Reason::TooLong,
-            start,
-        });
-    }
-    if start == end {
-        return Ok((0, at));
-    }
-    placed(counted(&line[start..end]), start, end)
-}
-
-// The tasks that the words from `at` on name, put to the set, as far as the steps go.
-fn tasks_from(
-    line: &[u8],
-    whole: bool,
-    names: &[u8],
-    set: u64,
-    at: usize,
-    steps: u64,
-) -> Result<(u64, usize), Fault>
-    ensures { result ≡ tasks_from line.now whole names.now steps set at }
-{
-    if steps == 0 {
-        return Ok((set, at));
-    }
-    let word = words::next(line, at, whole);
-    if word.cut {
-        return Err(Fault {
-            reason: Reason::TooLong,
-            start: word.start,
-        });
-    }
-    if word.start == word.end {
-        return Ok((set, at));
-    }
-    match thing(line, whole, names, Sort::Task, at) {
-        Ok((task, behind)) => {
-            if task < 64 {
-                return tasks_from(line, whole, names, sets::add(set, task), behind, steps - 1);
-            }
-            Err(Fault {
-                reason: Reason::NotInRange,
-                start: word.start,
-            })
-        }
-        Err(fault) => Err(fault),
+        Err(reason) => Err(reason.at(start)),
     }
 }
 
@@ -222,36 +149,97 @@ fn is_tasks(word: &[u8]) -> bool
     text::is_row(b"tasks", 0, 5, word)
 }
 
-// The tasks of an order: a mask, or the word `tasks` and one task or more.
-fn mask(line: &[u8], whole: bool, names: &[u8], at: usize) -> Result<(u64, usize), Fault>
-    ensures { result ≡ mask_at line.now whole names.now at }
-{
-    let word = words::next(line, at, whole);
-    let start = word.start;
-    let end = word.end;
-    if !is_tasks(&line[start..end]) {
-        return thing(line, whole, names, Sort::Unused, at);
-    }
-    match thing(line, whole, names, Sort::Task, end) {
-        Ok(_) => tasks_from(line, whole, names, 0, end, 64),
-        Err(fault) => Err(fault),
-    }
+// What is read: the bytes of a line, whether they are all of it, and the names that things have.
+#[derive(Clone, Copy)]
+pub struct Source<'a> {
+    pub line: &'a [u8],
+    pub whole: bool,
+    pub names: &'a [u8],
 }
 
-// The argument from `at` on, of the sort that is wanted.
-pub fn read_argument(
-    line: &[u8],
-    whole: bool,
-    names: &[u8],
-    sort: Sort,
-    at: usize,
-) -> Result<(u64, usize), Fault>
-    ensures { result ≡ argument_at line.now whole names.now sort at }
-{
-    match sort {
-        Sort::Unused => Ok((0, at)),
-        Sort::Any => number(line, whole, at),
-        Sort::Mask => mask(line, whole, names, at),
-        Sort::Task | Sort::Role | Sort::Person | Sort::Order => thing(line, whole, names, sort, at),
+impl<'a> Source<'a> {
+    // The word from `at` on, if the line has one more; a line that is cut there is too long.
+    pub fn next_word(self, at: usize) -> Result<Option<Span>, Fault>
+        ensures { NextWord self.entry.line.now self.entry.whole at result }
+    {
+        let word = words::next(self.line, at, self.whole);
+        if word.cut {
+            return Err(Reason::TooLong.at(word.start));
+        }
+        if word.start == word.end {
+            return Ok(None);
+        }
+        Ok(Some(word))
+    }
+
+    // The word from `at` on, which must be there.
+    pub fn needed_word(self, at: usize) -> Result<Span, Fault>
+        ensures { NeededWord self.entry.line.now self.entry.whole at result }
+    {
+        match self.next_word(at)? {
+            Some(word) => Ok(word),
+            None => Err(Reason::TooFew.at(words::next(self.line, at, self.whole).start)),
+        }
+    }
+
+    // The word from `at` on, which must be there, as a thing of the sort; of a sort without names as a number.
+    pub fn thing(self, sort: Sort, at: usize) -> Result<(u64, usize), Fault>
+        ensures { result ≡ thing_at self.entry.line.now self.entry.whole self.entry.names.now sort at }
+    {
+        let word = self.needed_word(at)?;
+        let value = stands_for(self.names, sort, &self.line[word.start..word.end]);
+        placed(value, word.start, word.end)
+    }
+
+    // The word from `at` on as a number; 0 where there is none.
+    fn number(self, at: usize) -> Result<(u64, usize), Fault>
+        ensures { result ≡ number_at self.entry.line.now self.entry.whole at }
+    {
+        let Some(word) = self.next_word(at)? else {
+            return Ok((0, at));
+        };
+        let value = counted(&self.line[word.start..word.end]);
+        placed(value, word.start, word.end)
+    }
+
+    // The tasks that the words from `at` on name, put to the set, as far as the steps go.
+    fn tasks_from(self, set: u64, at: usize, steps: u64) -> Result<(u64, usize), Fault>
+        ensures { result ≡ tasks_from self.entry.line.now self.entry.whole self.entry.names.now steps set at }
+    {
+        if steps == 0 {
+            return Ok((set, at));
+        }
+        let Some(word) = self.next_word(at)? else {
+            return Ok((set, at));
+        };
+        let (task, behind) = self.thing(Sort::Task, at)?;
+        if task < 64 {
+            return self.tasks_from(sets::add(set, task), behind, steps - 1);
+        }
+        Err(Reason::NotInRange.at(word.start))
+    }
+
+    // The tasks of an order: a mask, or the word `tasks` and one task or more.
+    fn mask(self, at: usize) -> Result<(u64, usize), Fault>
+        ensures { result ≡ mask_at self.entry.line.now self.entry.whole self.entry.names.now at }
+    {
+        let word = words::next(self.line, at, self.whole);
+        if !is_tasks(&self.line[word.start..word.end]) {
+            return self.thing(Sort::Unused, at);
+        }
+        self.thing(Sort::Task, word.end)?;
+        self.tasks_from(0, word.end, 64)
+    }
+
+    // The argument from `at` on, of the sort that is wanted.
+    pub fn argument(self, sort: Sort, at: usize) -> Result<(u64, usize), Fault>
+        ensures { result ≡ argument_at self.entry.line.now self.entry.whole self.entry.names.now sort at }
+    {
+        match sort {
+            Sort::Unused => Ok((0, at)),
+            Sort::Any => self.number(at),
+            Sort::Mask => self.mask(at),
+            Sort::Task | Sort::Role | Sort::Person | Sort::Order => self.thing(sort, at),
+        }
     }
 }
