@@ -159,10 +159,10 @@ impl<'a> Lines<'a> {
         }
     }
 
-    // The next line, if there is one: no longer than the text that was lent.
+    // The next line, if there is one: no longer than the text that was lent. While it is lent on in the line, nothing can be said of the text
+    // afterwards; that it keeps its length `gather` says, and nothing else is done to it.
     pub fn next(&mut self, source: &mut impl Read) -> Result<Option<Line<'_>>, Unreadable>
-        ensures room { length self.new.text.now ≡ length self.old.text.now }
-        ensures line { IfOk result (λ found. IfSome found (λ (line : Line). length line.text.now ≤ length self.old.text.now)) }
+        ensures { IfOk result (λ found. IfSome found (λ (line : Line). length line.text.now ≤ length self.old.text.now)) }
     {
         if self.gather(source)? {
             Ok(Some(self.line()))

@@ -40,7 +40,7 @@ Not reason start = Err (fault_at reason start)
 abbrev pub takes : Sort → Sort → Sort → Takes
 takes a b c = record { 0 = a; 1 = b; 2 = c }
 
--- Row 0 is of what is no kind: it takes none to three numbers, of Any size. Then come kinds 1, 2 and so on.
+-- Row 0 is of what is no kind: it takes none to three numbers, of any size. Then come kinds 1, 2 and so on.
 abbrev pub table : List Takes
 table =
     takes Any Any Any
