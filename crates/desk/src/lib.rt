@@ -35,6 +35,8 @@ fn staff_table(place: u64) -> Table
 
 // What the kind does, on a well-formed book and arguments that fit; what is no kind is refused.
 // Stays: a kind is a number, as the C interface gives it, and `Answered` promises an answer to any number.
+// Stays: a, b and c go side by side, as document 01 has them: what each of them means goes by the kind, so a struct could give them no names.
+// Stays: `WellFormed` is asked and is no type: between two writes of one change a book is not well-formed, and it is written through `&mut`.
 fn carry_out(book: &mut book::Words, kind: u64, a: u64, b: u64, c: u64) -> Answer
     requires { WellFormed book.old × (fault_of (tables book.old) (row_of kind) a b c ≡ 0) }
     ensures { Settled book.old book.new (row_of kind).deed a b c result }
