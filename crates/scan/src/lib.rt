@@ -91,6 +91,8 @@ fn bad_active_in(book: &book::Words, subjects: u64, roles: u64) -> Option<u64>
 
 // The lowest bad row of a table, if it has one.
 // Stays: a match on the table, which says in a line for each what it may hold; closures handed in would be these lines in another place.
+// A call of its own, so that what goes through the tables keeps them in a frame, and not below the stack's end, in the red zone.
+#[inline(never)]
 fn bad_row_in(book: &book::Words, table: Table) -> Option<u64>
     ensures { IsLowest (row_bad (tables book.now) (number table)) result }
 {

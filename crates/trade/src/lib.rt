@@ -87,6 +87,8 @@ fn grown(book: &book::Words, first: Table, second: Table, set: u64, fresh: u64, 
 }
 
 // The set and all that chains along the mixed rows lead to from it, in so many steps at most: the first step, from all its members.
+// In one place in the machine code, for whatever tables: made apart for each pair of them it would call memcpy, which the header rules out.
+#[inline(never)]
 pub fn spread(book: &book::Words, first: Table, second: Table, set: u64, steps: u64) -> u64
     ensures { result ≡ close steps (mixed (tables book.now) (number first) (number second)) set }
 {
