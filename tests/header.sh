@@ -3,7 +3,7 @@
 #
 # What it reads of the Rattle side, and in what form; where it finds nothing it fails and says so:
 #   crates/rules/specs/Book.antt      the line `book_words = COUNT`
-#   crates/answers/src/lib.rt         the arms `Answer::CASE .. => say(NUMBER ..` of `told`, or say_x, say_xy, ..
+#   crates/answers/src/lib.rt         the arms `Refusal::CASE .. => (NUMBER, ..` of the conversion to a Reply; Ok is 0
 #   crates/rules/specs/Requests.antt  the rows `asks DEED NEED NEED NEED` of `table`
 #   crates/rules/specs/Audit.antt     the rows of `rules`, after the one that is no rule
 # Which kinds the library knows is asked of the library, and what the panel's words mean is asked of the panel.
@@ -72,9 +72,12 @@ same_words() {
 
 same_answers_listed() {
     sed -nE 's/^answer ([0-9]+ [A-Z_]+) .*/\1/p' "$room/lists" >"$room/header"
-    # As one line, since the layout may break an arm. A case's name in capitals, with a _ before each but the first.
-    tr '\n' ' ' <crates/answers/src/lib.rt | grep -oE 'Answer::[A-Za-z]+(\([^)]*\))? *=> *\{? *say[a-z_]*\( *[0-9]+' |
-        sed -E 's/Answer::([A-Za-z]+).*[^0-9]([0-9]+)$/\2 \1/; s/([a-z])([A-Z])/\1_\2/g' | tr '[:lower:]' '[:upper:]' >"$room/rattle"
+    # As one line, since the layout may break an arm. A case's name in capitals, with a _ before each but the first. Ok is number 0.
+    {
+        grep -q 'Ok(()) => Reply::default(),' crates/answers/src/lib.rt && echo 0 ACCEPTED
+        tr '\n' ' ' <crates/answers/src/lib.rt | grep -oE 'Refusal::[A-Za-z]+(\([^)]*\))? *=> *\( *[0-9]+' |
+            sed -E 's/Refusal::([A-Za-z]+).*[^0-9]([0-9]+)$/\2 \1/; s/([a-z])([A-Z])/\1_\2/g' | tr '[:lower:]' '[:upper:]'
+    } >"$room/rattle"
     same_list
 }
 

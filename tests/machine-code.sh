@@ -10,6 +10,11 @@ looked=$?
 
 says() { grep -qx "$1" "$room/code" || { grep "^${1%%:*}:" "$room/code"; return 1; }; }
 
+# Two sorts of relocation, in whatever order they come.
+anywhere() {
+    grep -qxE 'relocations: R_X86_64_(PC32 R_X86_64_PLT32|PLT32 R_X86_64_PC32)' "$room/code" || { grep '^relocations:' "$room/code"; return 1; }
+}
+
 # The deepest stack, with a quarter of TOWERPLANK_STACK left over: for memset, and for a compiler that does otherwise.
 leaves_room() {
     stack=$(sed -n 's/^#define TOWERPLANK_STACK //p' include/towerplank.h)
@@ -50,7 +55,7 @@ else
     holds "the library uses no red zone" says 'red zone: not used'
     holds "the library needs an aligned stack, as its header asks" says 'accesses that need an aligned stack: some'
     holds "the library calls nothing through a pointer" says 'calls through pointers: none'
-    holds "the library can be put anywhere in memory" says 'relocations: R_X86_64_PC32 R_X86_64_PLT32'
+    holds "the library can be put anywhere in memory" anywhere
     holds "the library takes nothing from outside but memset" says 'taken from outside: memset'
     holds "no function of the library calls itself" says 'functions that call themselves: none'
     holds "the frames of a call fit TOWERPLANK_STACK, and a quarter is left" leaves_room

@@ -12,7 +12,7 @@ Change = namedtuple("Change", "start end new kind")
 
 TOKEN = re.compile(
     r"""(?P<space>\s+)|(?P<comment>//[^\n]*)
-    |(?P<bytes>b"(?:[^"\\]|\\.)*"|b'(?:[^'\\]|\\.)+')|(?P<label>'\w+)
+    |(?P<bytes>b?"(?:[^"\\]|\\[\s\S])*"|b'(?:[^'\\]|\\.)+')|(?P<label>'\w+)
     |(?P<number>\d[\d_]*(?:[ui](?:8|16|32|64|size))?)|(?P<word>\w+)
     |(?P<sign>\.\.=|::|->|=>|==|!=|<=|>=|<<|>>|&&|\|\||\+=|-=|\.\.|[^\s\w])""",
     re.X,
@@ -95,14 +95,23 @@ class Source:
         """The text of the tokens from first to before last."""
         return self.text[self.tokens[first].start : self.tokens[last - 1].end]
 
+    def past_types(self, i):
+        """The token i, or what stands behind the parameters for types and lifetimes that begin there."""
+        depth = 0
+        while self.at(i) == "<" or depth:
+            depth += {"<": 1, ">": -1, ">>": -2}.get(self.at(i), 0)
+            i += 1
+        return i
+
     def functions(self):
         found = []
         for i, t in enumerate(self.tokens):
             if t.text != "fn" or self.tokens[i + 1].kind != "word":
                 continue
-            close = self.partner[i + 2]
+            opened = self.past_types(i + 2)
+            close = self.partner[opened]
             body = self.until(close + 1, {"{"}, len(self.tokens))
-            params = [(self.at(a), self.words(a + 2, e)) for a, e in self.parts(i + 3, close) if self.at(a + 1) == ":"]
+            params = [(self.at(a), self.words(a + 2, e)) for a, e in self.parts(opened + 1, close) if self.at(a + 1) == ":"]
             returns = self.words(close + 2, body) if self.at(close + 1) == "->" else ""
             promised = any(t.start < p < self.tokens[body].start for p in self.promises)
             found.append(Function(self.at(i + 1), params, returns, promised, body, self.partner[body], i))

@@ -1,17 +1,15 @@
-// What comes back: a case for each number of document 01, and the audit's finding likewise.
+// What comes back: a request is accepted or refused, with a case for each number of document 01, and a book is sound or at fault.
 // specs/Answers.antt and specs/Findings.antt give the document's number, x, y and z of each case.
 #![tactic(auto)]
 
 ghost use Rattle.std.specs.Prelude.{◌≡◌};
-ghost use Rattle.rules.specs.Numbers.{say, say_x, say_xy, say_xyz, is_accepted};
-ghost use Rattle.answers.specs.Answers.{said};
-ghost use Rattle.answers.specs.Findings.{found};
+ghost use Rattle.answers.specs.Answers.{refused, said};
+ghost use Rattle.answers.specs.Findings.{faulted, found};
 ghost use Rattle.answers.specs.Replies.{reply_of};
 
-// The answer to a request.
-#[derive(Clone, Copy)]
-pub enum Answer {
-    Accepted,
+// Why a request is refused.
+#[derive(Clone, Copy, PartialEq, Eq, Debug)]
+pub enum Refusal {
     WrongLength,
     BadWord(u64),
     UnknownKind,
@@ -40,17 +38,22 @@ pub enum Answer {
     HoldsDme(u64, u64, u64),
 }
 
-// What the audit finds: the lowest broken rule, where the book is well-formed.
-#[derive(Clone, Copy)]
-pub enum Finding {
-    Sound,
+// The answer to a request: only where it is Ok is the book changed.
+pub type Answer = Result<(), Refusal>;
+
+// What the audit finds in a book that is not sound: where it is well-formed, the lowest broken rule.
+#[derive(Clone, Copy, PartialEq, Eq, Debug)]
+pub enum Fault {
     WrongLength,
     BadWord(u64),
     Broken(u8),
 }
 
+// What the audit finds.
+pub type Finding = Result<(), Fault>;
+
 // An answer in numbers, as it leaves the program.
-#[derive(Clone, Copy)]
+#[derive(Clone, Copy, PartialEq, Eq, Debug, Default)]
 pub struct Reply {
     pub number: u64,
     pub x: u64,
@@ -58,94 +61,82 @@ pub struct Reply {
     pub z: u64,
 }
 
-// A number with nothing beside it, with x, with x and y, and with all three.
-fn say(number: u64) -> Reply
-    ensures { result ≡ reply_of (say number) }
-{
-    Reply {
-        number,
-        x: 0,
-        y: 0,
-        z: 0,
+// The number, x, y and z of a refusal.
+impl From<Refusal> for Reply {
+    ghost from_gives = { λ refusal reply. reply ≡ reply_of (refused refusal) };
+
+    fn from(refusal: Refusal) -> Reply {
+        let (number, x, y, z) = match refusal {
+            Refusal::WrongLength => (1, 0, 0, 0),
+            Refusal::BadWord(i) => (2, i, 0, 0),
+            Refusal::UnknownKind => (3, 0, 0, 0),
+            Refusal::BadArgument(place) => (4, place, 0, 0),
+            Refusal::AlreadySet => (5, 0, 0, 0),
+            Refusal::NotThere => (6, 0, 0, 0),
+            Refusal::OrderOpen(order) => (7, order, 0, 0),
+            Refusal::NotOwned => (8, 0, 0, 0),
+            Refusal::HasSubject(subject) => (9, subject, 0, 0),
+            Refusal::HasRole(role) => (10, role, 0, 0),
+            Refusal::TaskNotOwned(task) => (11, task, 0, 0),
+            Refusal::SelfConstraint => (20, 0, 0, 0),
+            Refusal::AlreadyDme => (21, 0, 0, 0),
+            Refusal::AlreadySme => (22, 0, 0, 0),
+            Refusal::OneSubjectGroup => (23, 0, 0, 0),
+            Refusal::OneRoleGroup => (24, 0, 0, 0),
+            Refusal::RoleOwnsBoth(role) => (25, role, 0, 0),
+            Refusal::SubjectOwnsBoth(subject) => (26, subject, 0, 0),
+            Refusal::SmeBetween(x, y) => (27, x, y, 0),
+            Refusal::DmeBetween(x, y) => (28, x, y, 0),
+            Refusal::SelfInheritance => (29, 0, 0, 0),
+            Refusal::Cycle => (30, 0, 0, 0),
+            Refusal::TaskAssignment(role, tasks) => (31, role, tasks, 0),
+            Refusal::RoleAssignment(subject, tasks) => (32, subject, tasks, 0),
+            Refusal::HoldsSme(x, y, order) => (33, x, y, order),
+            Refusal::HoldsDme(x, y, order) => (34, x, y, order),
+        };
+        Reply { number, x, y, z }
     }
 }
 
-fn say_x(number: u64, x: u64) -> Reply
-    ensures { result ≡ reply_of (say_x number x) }
-{
-    Reply {
-        number,
-        x,
-        y: 0,
-        z: 0,
+// Those of an answer: what is accepted is number 0 and names nothing.
+impl From<Answer> for Reply {
+    ghost from_gives = { λ answer reply. reply ≡ reply_of (said answer) };
+
+    fn from(answer: Answer) -> Reply {
+        match answer {
+            Ok(()) => Reply::default(),
+            Err(refusal) => Reply::from(refusal),
+        }
     }
 }
 
-fn say_xy(number: u64, x: u64, y: u64) -> Reply
-    ensures { result ≡ reply_of (say_xy number x y) }
-{
-    Reply { number, x, y, z: 0 }
-}
+// The number and x of a fault, which names nothing else.
+impl From<Fault> for Reply {
+    ghost from_gives = { λ fault reply. reply ≡ reply_of (faulted fault) };
 
-fn say_xyz(number: u64, x: u64, y: u64, z: u64) -> Reply
-    ensures { result ≡ reply_of (say_xyz number x y z) }
-{
-    Reply { number, x, y, z }
-}
-
-// The number, x, y and z of an answer.
-pub fn told(answer: Answer) -> Reply
-    ensures { result ≡ reply_of (said answer) }
-{
-    match answer {
-        Answer::Accepted => say(0),
-        Answer::WrongLength => say(1),
-        Answer::BadWord(i) => say_x(2, i),
-        Answer::UnknownKind => say(3),
-        Answer::BadArgument(place) => say_x(4, place),
-        Answer::AlreadySet => say(5),
-        Answer::NotThere => say(6),
-        Answer::OrderOpen(order) => say_x(7, order),
-        Answer::NotOwned => say(8),
-        Answer::HasSubject(subject) => say_x(9, subject),
-        Answer::HasRole(role) => say_x(10, role),
-        Answer::TaskNotOwned(task) => say_x(11, task),
-        Answer::SelfConstraint => say(20),
-        Answer::AlreadyDme => say(21),
-        Answer::AlreadySme => say(22),
-        Answer::OneSubjectGroup => say(23),
-        Answer::OneRoleGroup => say(24),
-        Answer::RoleOwnsBoth(role) => say_x(25, role),
-        Answer::SubjectOwnsBoth(subject) => say_x(26, subject),
-        Answer::SmeBetween(x, y) => say_xy(27, x, y),
-        Answer::DmeBetween(x, y) => say_xy(28, x, y),
-        Answer::SelfInheritance => say(29),
-        Answer::Cycle => say(30),
-        Answer::TaskAssignment(role, tasks) => say_xy(31, role, tasks),
-        Answer::RoleAssignment(subject, tasks) => say_xy(32, subject, tasks),
-        Answer::HoldsSme(x, y, order) => say_xyz(33, x, y, order),
-        Answer::HoldsDme(x, y, order) => say_xyz(34, x, y, order),
+    fn from(fault: Fault) -> Reply {
+        let (number, x) = match fault {
+            Fault::WrongLength => (1, 0),
+            Fault::BadWord(i) => (2, i),
+            Fault::Broken(rule) => (40 + rule as u64, 0),
+        };
+        Reply {
+            number,
+            x,
+            y: 0,
+            z: 0,
+        }
     }
 }
 
-// Whether the request was accepted: the only answer after which the book is changed.
-pub fn is_accepted(answer: Answer) -> bool
-    ensures { result ≡ is_accepted (said answer) }
-{
-    match answer {
-        Answer::Accepted => true,
-        _ => false,
-    }
-}
+// Those of a finding: a sound book is number 0.
+impl From<Finding> for Reply {
+    ghost from_gives = { λ finding reply. reply ≡ reply_of (found finding) };
 
-// The number and x of a finding, which names nothing else.
-pub fn told_finding(finding: Finding) -> Reply
-    ensures { result ≡ reply_of (found finding) }
-{
-    match finding {
-        Finding::Sound => say(0),
-        Finding::WrongLength => say(1),
-        Finding::BadWord(i) => say_x(2, i),
-        Finding::Broken(rule) => say(40 + rule as u64),
+    fn from(finding: Finding) -> Reply {
+        match finding {
+            Ok(()) => Reply::default(),
+            Err(fault) => Reply::from(fault),
+        }
     }
 }

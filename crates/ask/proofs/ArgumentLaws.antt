@@ -79,7 +79,7 @@ module _ (d : Book) (k a b c : ℕ) {row : Read} (is_row : row ≡ asked (row_of
   fits_first : (t : Bool) → p ≡ t → fits d (row_of k).a a ≡ t
   fits_first t e = as_asked d _ _ a p (ap (λ (r : Read). r.0) is_row) first ∙ e
 
-  pub first_at_fault : not p ≡ true → 1 ≡ fault_of d (row_of k) a b c
+  pub first_at_fault : not p ≡ true → fault_of d (row_of k) a b c ≡ 1
   unfolding fault_of
   first_at_fault e = rw (fits_first false (not-true p e))
 
@@ -87,7 +87,7 @@ module _ (d : Book) (k a b c : ℕ) {row : Read} (is_row : row ≡ asked (row_of
     fits_second : (t : Bool) → q ≡ t → fits d (row_of k).b b ≡ t
     fits_second t e = as_asked d _ _ b q (ap (λ (r : Read). r.1) is_row) second ∙ e
 
-    pub second_at_fault : not q ≡ true → 2 ≡ fault_of d (row_of k) a b c
+    pub second_at_fault : not q ≡ true → fault_of d (row_of k) a b c ≡ 2
     unfolding fault_of
     second_at_fault e = rw (fits_first true (not-false p fine), fits_second false (not-true q e))
 
@@ -95,11 +95,11 @@ module _ (d : Book) (k a b c : ℕ) {row : Read} (is_row : row ≡ asked (row_of
       fits_third : (t : Bool) → r ≡ t → fits d (row_of k).c c ≡ t
       fits_third t e = as_asked d _ _ c r (ap (λ (r : Read). r.2) is_row) third ∙ e
 
-      pub third_at_fault : not r ≡ true → 3 ≡ fault_of d (row_of k) a b c
+      pub third_at_fault : not r ≡ true → fault_of d (row_of k) a b c ≡ 3
       unfolding fault_of
       third_at_fault e = rw (fits_first true (not-false p fine), fits_second true (not-false q fine'), fits_third false (not-true r e))
 
-      pub none_at_fault : not r ≡ false → 0 ≡ fault_of d (row_of k) a b c
+      pub none_at_fault : not r ≡ false → fault_of d (row_of k) a b c ≡ 0
       unfolding fault_of
       none_at_fault e = rw (fits_first true (not-false p fine), fits_second true (not-false q fine'), fits_third true (not-false r e))
 

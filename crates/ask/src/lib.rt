@@ -1,15 +1,17 @@
 // The arguments of a request: the one fixed table of what each must be, and the first argument at fault.
 #![tactic(auto)]
 
-ghost use Rattle.std.specs.Prelude.{◌≡◌, ◌&&◌, not, ◌<◌, ltb, eqb};
+ghost use Rattle.std.specs.Prelude.{◌≡◌, ◌&&◌, not, ◌<◌, ltb, eqb, MatchOption};
 ghost use Rattle.sets.specs.Mask.{bit, within};
 ghost use Rattle.rules.specs.Book.{head_words, tasks};
 ghost use Rattle.rules.specs.Requests.{row_of, fits, is_open};
-ghost use Rattle.book.specs.Slice.{tables, Full};
+ghost use Rattle.book.specs.Slice.{tables};
 ghost use Rattle.ask.specs.Arguments.{need_of, asked, fault_of};
 
+use book::Table;
+
 // What an argument must be.
-#[derive(Clone, Copy)]
+#[derive(Clone, Copy, PartialEq, Eq, Debug)]
 pub enum Argument {
     Unused,
     InRange,
@@ -21,15 +23,18 @@ pub enum Argument {
 }
 
 // What a, b and c must be.
-#[derive(Clone, Copy)]
+#[derive(Clone, Copy, PartialEq, Eq, Debug)]
 pub struct Row(pub Argument, pub Argument, pub Argument);
+
+// What is no kind asks for nothing.
+const NO_KIND: Row = Row(Argument::Unused, Argument::Unused, Argument::Unused);
 
 // Row 0, and one for each kind.
 const ROWS: usize = 22;
 
 // By kind: the one fixed table of twenty-one rows, after row 0, which is no kind.
 const TABLE: [Row; ROWS] = [
-    Row(Argument::Unused, Argument::Unused, Argument::Unused), // no kind
+    NO_KIND,
     Row(Argument::InRange, Argument::Unused, Argument::Unused), // 1
     Row(Argument::InRange, Argument::Unused, Argument::Unused), // 2
     Row(Argument::InRange, Argument::Unused, Argument::Unused), // 3
@@ -57,45 +62,38 @@ const TABLE: [Row; ROWS] = [
 fn row_of(kind: u64) -> Row
     ensures { result ≡ asked (row_of kind) }
 {
-    let i = kind as usize;
-    if i < ROWS { TABLE[i] } else { TABLE[0] }
+    match TABLE.get(kind as usize) {
+        Some(row) => *row,
+        None => NO_KIND,
+    }
 }
 
 // Whether v is a defined task, role or subject, by the word of the head.
-fn is_defined(book: &[u64], things: u64, v: u64) -> bool
-    requires { Full book.now × (things < head_words) }
+fn is_defined(book: &book::Words, things: u64, v: u64) -> bool
+    requires { things < head_words }
     ensures { result ≡ (ltb v 64 && bit ((tables book.now).head things) v) }
 {
-    if v < 64 {
-        sets::has(book::head(book, things), v)
-    } else {
-        false
-    }
+    v < 64 && sets::has(book::head(book, things), v)
 }
 
 // Whether v is an open order.
-fn is_open_order(book: &[u64], v: u64) -> bool
-    requires { Full book.now }
+#[tactic(auto, unfolding(rules::specs::Requests::is_open))]
+fn is_open_order(book: &book::Words, v: u64) -> bool
     ensures { result ≡ (ltb v 64 && is_open (tables book.now) v) }
 {
-    if v < 64 {
-        book::row(book, book::ORDERS, v) != 0
-    } else {
-        false
-    }
+    v < 64 && book::row(book, Table::Orders, v) != 0
 }
 
 // Whether v is a nonempty mask of defined tasks.
-fn is_task_mask(book: &[u64], v: u64) -> bool
-    requires { Full book.now }
+fn is_task_mask(book: &book::Words, v: u64) -> bool
     ensures { result ≡ (not (eqb v 0) && within v (tasks (tables book.now))) }
 {
-    (v != 0) & sets::inside(v, book::head(book, book::TASKS))
+    v != 0 && sets::inside(v, book::head(book, book::TASKS))
 }
 
 // Whether v is what it must be.
-fn is_fit(book: &[u64], argument: Argument, v: u64) -> bool
-    requires { Full book.now }
+#[tactic(auto, unfolding(rules::specs::Requests::fits))]
+fn is_fit(book: &book::Words, argument: Argument, v: u64) -> bool
     ensures { result ≡ fits (tables book.now) (need_of argument) v }
 {
     match argument {
@@ -109,23 +107,20 @@ fn is_fit(book: &[u64], argument: Argument, v: u64) -> bool
     }
 }
 
-// The first argument at fault, 1, 2 or 3; 0 where none is.
-pub fn argument_fault(book: &[u64], kind: u64, a: u64, b: u64, c: u64) -> u64
-    requires { Full book.now }
-    ensures { result ≡ fault_of (tables book.now) (row_of kind) a b c }
+// The place of the first argument at fault, 1, 2 or 3, where there is one.
+pub fn argument_fault(book: &book::Words, kind: u64, a: u64, b: u64, c: u64) -> Option<u64>
+    ensures { MatchOption result (fault_of (tables book.now) (row_of kind) a b c ≡ 0)
+        (λ place. (0 < place) × (fault_of (tables book.now) (row_of kind) a b c ≡ place)) }
 {
-    let row = row_of(kind);
-    let first = row.0;
-    let second = row.1;
-    let third = row.2;
+    let Row(first, second, third) = row_of(kind);
     if !is_fit(book, first, a) {
-        return 1;
+        return Some(1);
     }
     if !is_fit(book, second, b) {
-        return 2;
+        return Some(2);
     }
     if !is_fit(book, third, c) {
-        return 3;
+        return Some(3);
     }
-    0
+    None
 }

@@ -7,6 +7,7 @@ use Prim.Native.Nat.{ℕ}
 use lib.Dec.{eqb}
 use lib.ListN.{length}
 use borrow.Author.Tests.{eqb-true, not-false}
+use Rattle.std.specs.Prelude.{Ok}
 use Rattle.rules.specs.Book.{book_words}
 use Rattle.rules.specs.Requests.{Request}
 use Rattle.rules.specs.Numbers.{accepted, answer}
@@ -16,8 +17,6 @@ use Rattle.demands.specs.Demand3 as demand
 use Rattle.clicks.specs.Clicks.{AllAccepted, final}
 use Rattle.clicks.proofs.Clicks.{order_free, restored, back_accepted}
 use Rattle.book.specs.Slice.{words, Full}
-use Rattle.answers.specs.declared.Answer.TheVariants.{Accepted}
-use Rattle.answers.specs.declared.Finding.TheVariants.{Sound}
 use Rattle.answers.proofs.AnswerLaws.{said_injective}
 use Rattle.desk.specs.Guarantee.{Stored, Answered}
 use Rattle.audit.specs.Guarantee.{Finds}
@@ -88,13 +87,13 @@ module _ {Passed : List ℕ → Type 0} {Serves Accepts : Serving} (door : Door 
       )
 
 -- The entries: an answer is known by what it says.
-entry : Door (λ l. Finds l Sound) Entry EntryAccepts
+entry : Door (λ l. Finds l (Ok tt)) Entry EntryAccepts
 entry = record {
   passes = λ l e. sym e;
   stores = λ (r, o). o.stored;
   keeps = λ o. o.stored;
   told = λ o. sym o.told;
-  accepts = λ {q} {before} {after} (r, o) e. subst (Answered before after q) (said_injective r Accepted (o.told ∙ e)) o;
+  accepts = λ {q} {before} {after} (r, o) e. subst (Answered before after q) (said_injective r (Ok tt) (o.told ∙ e)) o;
 }
 
 -- The C functions: the number 0 is told by no other answer.

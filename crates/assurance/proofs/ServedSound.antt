@@ -4,11 +4,11 @@ use mathlib.Core.Path.{◌≡◌, ap, ◌∙◌}
 use mathlib.Core.List.{List}
 use Prim.Native.Nat.{ℕ}
 use lib.ListN.{length}
+use Rattle.std.specs.Prelude.{Ok}
 use Rattle.rules.specs.Requests.{Request}
 use Rattle.rules.specs.Numbers.{accepted}
 use Rattle.rules.specs.Audit.{audited}
 use Rattle.book.specs.Slice.{words}
-use Rattle.answers.specs.declared.Finding.TheVariants.{Sound}
 use Rattle.desk.specs.Guarantee.{Stored}
 use Rattle.audit.proofs.OneFinding.{found_injective}
 use Rattle.towerplank.specs.Told.{four_words}
@@ -39,7 +39,7 @@ like_audited {l} b =
 
 -- STATEMENT 1: the entries.
 pub served_sound : ServedSound
-served_sound l s f e = found_injective f Sound (e ∙ like_audited (served_like stores s))
+served_sound l s f e = found_injective f (Ok tt) (e ∙ like_audited (served_like stores s))
   where
     stores : (before after : List ℕ) → ByEntry before after → (q : Request) × Stored before after q
     stores before after (q, (r, o)) = (q, o.stored)

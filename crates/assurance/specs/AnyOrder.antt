@@ -1,14 +1,12 @@
 -- M-102 carried to the guarantees of the code, as Served.antt carries demand 3: of the slices that the entries really get. Two foremen lend
 -- slices that are equal in every word, and put one list to them, each in an order of their own.
 -- proofs/AnyOrder.antt shows the statements from those of crates/clicks/specs/Clicks.antt.
-use Rattle.std.specs.Prelude.{◌≡◌, ℕ}
+use Rattle.std.specs.Prelude.{◌≡◌, ℕ, Ok}
 use mathlib.Core.List.{List, [], ◌∷◌, Perm}
 use Rattle.rules.specs.Requests.{Request}
 use Rattle.rules.specs.Meaning.{Fits}
 use Rattle.clicks.specs.Clicks.{Adding, AllAdding, TakesBack}
 use Rattle.book.specs.Slice.{words}
-use Rattle.answers.specs.declared.Answer.TheVariants.{Accepted}
-use Rattle.answers.specs.declared.Finding.TheVariants.{Sound}
 use Rattle.desk.specs.Guarantee.{Answered}
 use Rattle.audit.specs.Guarantee.{Finds}
 use Rattle.towerplank.specs.Told.{Told, ToldAudit}
@@ -22,7 +20,7 @@ pub data Run (Serves : Serving) : List Request → List ℕ → List ℕ → Typ
 
 -- The request entry accepts,
 abbrev pub EntryAccepts : Serving
-EntryAccepts q before after = Answered before after q Accepted
+EntryAccepts q before after = Answered before after q (Ok tt)
 
 -- and the C function accepts: it tells four zeros.
 abbrev pub zeros : List ℕ
@@ -48,10 +46,10 @@ RestoredBy Passed Serves Accepts =
 
 -- 1. and 2. Of the entries; the audit entry has found the slice sound.
 abbrev pub OrderFreeServed : Type 0
-OrderFreeServed = OrderFreeBy (λ l. Finds l Sound) Entry EntryAccepts
+OrderFreeServed = OrderFreeBy (λ l. Finds l (Ok tt)) Entry EntryAccepts
 
 abbrev pub RestoredServed : Type 0
-RestoredServed = RestoredBy (λ l. Finds l Sound) Entry EntryAccepts
+RestoredServed = RestoredBy (λ l. Finds l (Ok tt)) Entry EntryAccepts
 
 -- 3. and 4. Of the C functions; the audit has told four zeros.
 abbrev pub OrderFreeInC : Type 0

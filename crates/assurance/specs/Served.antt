@@ -1,12 +1,11 @@
 -- What a user may rely on, of the slices that the entries really get: demand 3 carried to the guarantees of the code.
 -- proofs/ServedSound.antt shows both statements from the third statement of demand 3.
-use Rattle.std.specs.Prelude.{◌≡◌, List, [], ◌∷◌, ℕ, ◌<◌}
+use Rattle.std.specs.Prelude.{◌≡◌, List, [], ◌∷◌, ℕ, ◌<◌, Ok}
 use Rattle.rules.specs.Book.{book_words}
 use Rattle.rules.specs.Requests.{Request}
 use Rattle.book.specs.Slice.{words, Full}
-use Rattle.answers.specs.declared.Answer.{Answer}
-use Rattle.answers.specs.declared.Finding.{Finding}
-use Rattle.answers.specs.declared.Finding.TheVariants.{Sound}
+use Rattle.answers.specs.Answers.{Answer}
+use Rattle.answers.specs.Findings.{Finding}
 use Rattle.desk.specs.Guarantee.{Answered}
 use Rattle.audit.specs.Guarantee.{Finds}
 use Rattle.towerplank.specs.Told.{Told, ToldAudit}
@@ -38,7 +37,7 @@ ByC before after = (q : Request) × InC q before after
 
 -- 1. The audit entry finds every slice that the request entry has served sound: no other finding meets its guarantee.
 abbrev pub ServedSound : Type 0
-ServedSound = (l : List ℕ) → Served ByEntry l → (f : Finding) → Finds l f → f ≡ Sound
+ServedSound = (l : List ℕ) → Served ByEntry l → (f : Finding) → Finds l f → f ≡ Ok tt
 
 -- 2. The same of the two C functions: the audit tells four zeros.
 abbrev pub ServedSoundC : Type 0

@@ -3,8 +3,7 @@
 use Rattle.std.specs.Prelude.{◌≡◌, List, ℕ, length}
 use Rattle.rules.specs.Audit.{audited}
 use Rattle.book.specs.Slice.{words}
-use Rattle.answers.specs.declared.Finding.{Finding}
-use Rattle.answers.specs.Findings.{found}
+use Rattle.answers.specs.Findings.{Finding, found}
 
 -- f is found of the slice
 abbrev pub Finds : List ℕ → Finding → Type 0

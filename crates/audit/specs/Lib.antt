@@ -1,2 +1,3 @@
 pub mod Guarantee
 pub mod Asked
+pub mod Broken

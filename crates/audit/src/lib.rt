@@ -1,24 +1,24 @@
 // Document 01, "The audit": it only reads, and names the lowest broken rule.
 #![tactic(auto)]
 
-ghost use Rattle.std.specs.Prelude.{◌≡◌, false, not, ◌<◌};
-ghost use Rattle.rules.specs.Book.{SME, DME};
-ghost use Rattle.rules.specs.Trade.{subject_group, role_group};
-ghost use Rattle.rules.specs.Audit.{apart, kept_at, broken, first_broken};
-ghost use Rattle.book.specs.Slice.{tables, Full, WellFormed};
+ghost use Rattle.std.specs.Prelude.{◌≡◌, false, not, ℕ, ◌<◌};
+ghost use Rattle.rules.specs.Audit.{apart, kept_at, broken};
+ghost use Rattle.book.specs.Tables.{number};
+ghost use Rattle.book.specs.Slice.{tables, WellFormed};
 ghost use Rattle.audit.specs.Guarantee.{Finds};
 ghost use Rattle.audit.specs.Asked.{asked_by};
+ghost use Rattle.audit.specs.Broken.{IsFirstBroken};
 
-use answers::Finding;
+use answers::{Fault, Finding};
+use book::Table;
 use owners::Owner;
-use table_rules::RowRule;
 
 // The first number that is no rule.
+// Stays: a rule goes by its number, here and in all that part by it: document 01 gives it, and a finding tells it to a C caller.
 const PAST: u8 = 11;
 
 // The numbers that rules 1 to 8 ask about: tasks in 1 to 5, roles in 6 and 7, subjects in 8. Where nothing is defined, nothing stands.
-fn asked(book: &[u64], rule: u8) -> u64
-    requires { Full book.now }
+fn asked(book: &book::Words, rule: u8) -> u64
     ensures { result ≡ asked_by (tables book.now) rule }
 {
     match rule {
@@ -28,55 +28,44 @@ fn asked(book: &[u64], rule: u8) -> u64
     }
 }
 
-// Rule 4 of task x: one that is SME to none needs no group.
-fn is_sme_apart(book: &[u64], x: u64) -> bool
-    requires { Full book.now × (x < 64) }
-    ensures { result ≡ apart ((tables book.now).row SME) (role_group (tables book.now)) x }
+// Rules 4 and 5 of task x: its row has none of its group, which is made only where the row has somebody.
+fn is_apart_from<F: FnOnce(u64) -> u64>(book: &book::Words, table: Table, group: F, x: u64) -> bool
+    requires { (x < 64) × F.pre group x }
+    ensures { (groups : ℕ → ℕ) → ((m : ℕ) → F.post group x m → m ≡ groups x) → result ≡ apart ((tables book.now).row (number table)) groups x }
 {
-    if book::row(book, book::SME, x) == 0 {
+    if book::row(book, table, x) == 0 {
         return true;
     }
-    table_rules::is_apart(book, book::SME, trade::role_group(book, x), x)
-}
-
-// Rule 5 of task x: one that is DME to none needs no group.
-fn is_dme_apart(book: &[u64], x: u64) -> bool
-    requires { Full book.now × (x < 64) }
-    ensures { result ≡ apart ((tables book.now).row DME) (subject_group (tables book.now)) x }
-{
-    if book::row(book, book::DME, x) == 0 {
-        return true;
-    }
-    table_rules::is_apart(book, book::DME, trade::subject_group(book, x), x)
+    table_rules::is_apart(book, table, group(x), x)
 }
 
 // Rules 1 and 2 of task x. What is neither asks nothing here.
-fn is_pair_kept(book: &[u64], rule: u8, x: u64) -> bool
-    requires { Full book.now × (x < 64) × (rule < 3) }
+fn is_pair_kept(book: &book::Words, rule: u8, x: u64) -> bool
+    requires { (x < 64) × (rule < 3) }
     ensures { result ≡ kept_at (tables book.now) rule x }
 {
     match rule {
-        1 => table_rules::is_kept_in_four(book, RowRule::NotOwn, x),
-        2 => table_rules::is_kept_in_four(book, RowRule::Symmetric, x),
+        1 => table_rules::is_kept_in_four(|table| !book::is_in_row(book, table, x, x)),
+        2 => table_rules::is_kept_in_four(|table| table_rules::is_two_sided(book, table, x)),
         _ => true,
     }
 }
 
 // Rules 3 to 5 of task x.
-fn is_exclusion_kept(book: &[u64], rule: u8, x: u64) -> bool
-    requires { Full book.now × (x < 64) × (2 < rule) × (rule < 6) }
+fn is_exclusion_kept(book: &book::Words, rule: u8, x: u64) -> bool
+    requires { (x < 64) × (2 < rule) × (rule < 6) }
     ensures { result ≡ kept_at (tables book.now) rule x }
 {
     match rule {
-        3 => table_rules::is_apart(book, book::SME, book::row(book, book::DME, x), x),
-        4 => is_sme_apart(book, x),
-        _ => is_dme_apart(book, x),
+        3 => table_rules::is_apart(book, Table::Sme, book::row(book, Table::Dme, x), x),
+        4 => is_apart_from(book, Table::Sme, |t| trade::role_group(book, t), x),
+        _ => is_apart_from(book, Table::Dme, |t| trade::subject_group(book, t), x),
     }
 }
 
 // Rules 6 and 7 of role x, rule 8 of subject x.
-fn is_owner_kept(book: &[u64], rule: u8, x: u64) -> bool
-    requires { Full book.now × (x < 64) × (5 < rule) × (rule < 9) }
+fn is_owner_kept(book: &book::Words, rule: u8, x: u64) -> bool
+    requires { (x < 64) × (5 < rule) × (rule < 9) }
     ensures { result ≡ kept_at (tables book.now) rule x }
 {
     match rule {
@@ -87,8 +76,8 @@ fn is_owner_kept(book: &[u64], rule: u8, x: u64) -> bool
 }
 
 // What one of rules 1 to 8 asks of one number. It is asked of every number, so the rules part by tests: a jump through a table costs more.
-fn is_kept_at(book: &[u64], rule: u8, x: u64) -> bool
-    requires { Full book.now × (x < 64) × (rule < 9) }
+fn is_kept_at(book: &book::Words, rule: u8, x: u64) -> bool
+    requires { (x < 64) × (rule < 9) }
     ensures { result ≡ kept_at (tables book.now) rule x }
 {
     if rule < 3 {
@@ -101,22 +90,20 @@ fn is_kept_at(book: &[u64], rule: u8, x: u64) -> bool
 }
 
 // Whether one of rules 1 to 8 is kept: it is at every defined number, and at the others by itself.
-fn is_kept(book: &[u64], rule: u8) -> bool
+fn is_kept(book: &book::Words, rule: u8) -> bool
     requires { WellFormed book.now × (rule < 9) }
     ensures { result ≡ not (broken (tables book.now) rule) }
 {
-    let mut left = asked(book, rule);
-    while left != 0 {
-        if !is_kept_at(book, rule, sets::lowest(left)) {
+    for x in sets::each(asked(book, rule)) {
+        if !is_kept_at(book, rule, x) {
             return false;
         }
-        left = sets::rest(left);
     }
     true
 }
 
 // Whether a rule is broken. Rule 10 is asked last, and then rule 2 is kept.
-fn is_broken(book: &[u64], rule: u8) -> bool
+fn is_broken(book: &book::Words, rule: u8) -> bool
     requires { WellFormed book.now × (rule < 11) × (2 < rule → broken (tables book.now) 2 ≡ false) }
     ensures { result ≡ broken (tables book.now) rule }
 {
@@ -127,33 +114,31 @@ fn is_broken(book: &[u64], rule: u8) -> bool
     }
 }
 
-// The lowest broken rule; 11 where all ten are kept.
-fn lowest_broken(book: &[u64]) -> u8
+// The lowest broken rule, if one is broken.
+fn lowest_broken(book: &book::Words) -> Option<u8>
     requires { WellFormed book.now }
-    ensures { result ≡ first_broken (tables book.now) }
+    ensures { IsFirstBroken (tables book.now) result }
 {
     for rule in 1..PAST {
         if is_broken(book, rule) {
-            return rule;
+            return Some(rule);
         }
     }
-    PAST
+    None
 }
 
 // The audit of a lent slice of any length.
-pub fn audit(book: &[u64]) -> Finding
-    ensures { Finds book.now result }
+pub fn audit(words: &[u64]) -> Finding
+    ensures { Finds words.now result }
 {
-    if book.len() != book::WORDS {
-        return Finding::WrongLength;
+    let Ok(book) = <&book::Words>::try_from(words) else {
+        return Err(Fault::WrongLength);
+    };
+    if let Some(i) = scan::first_bad(book) {
+        return Err(Fault::BadWord(i));
     }
-    let i = scan::first_bad(book);
-    if i < book::END {
-        return Finding::BadWord(i);
+    match lowest_broken(book) {
+        Some(rule) => Err(Fault::Broken(rule)),
+        None => Ok(()),
     }
-    let rule = lowest_broken(book);
-    if rule < PAST {
-        return Finding::Broken(rule);
-    }
-    Finding::Sound
 }

@@ -1,66 +1,53 @@
 -- What a new binding is answered, from what the code has read by then: the conflicts of kinds 6 and 7, one after the other.
 use mathlib.Core.Path.{◌≡◌, refl, sym, ap, ◌∙◌}
 use mathlib.Core.Bool.{true, false}
-use mathlib.Core.List.{[], ◌∷◌}
+use mathlib.Core.List.{List, [], ◌∷◌}
 use Prim.Native.Nat.{ℕ, ◌<◌}
+use Rattle.std.specs.Prelude.{Option, Some, None}
 use borrow.Author.Tests.{eq-eqb, ne_eqb}
 use Rattle.sets.specs.Mask.{bit}
 use Rattle.chains.specs.Closure.{close}
 use Rattle.rules.specs.Book.{Book, SME, DME, RB, SB}
 use Rattle.rules.specs.Trade.{mixed, subject_group, role_group}
-use Rattle.rules.specs.Numbers.{Said, accepted, say, say_xy, some_pair, given_pair_in, given_pair, between, first_of, rb_conflicts, sb_conflicts, is_accepted}
+use Rattle.rules.specs.Numbers.{Said, say, say_xy, Conflict, given_pair, between, first_of, rb_conflicts, sb_conflicts}
 use Rattle.rules.specs.Numbers.{self_constraint, already_dme, already_sme, sme_between_groups, dme_between_groups}
 use Rattle.rules.specs.Meaning.{Sized}
 use Rattle.trade.proofs.MixedLaws.{around}
-use Rattle.search.specs.declared.Found.{Found}
-use Rattle.search.specs.declared.Found.TheVariants.{Pair, Nothing}
 use Rattle.search.specs.Pairs.{found_pair}
 use Rattle.search.proofs.PairLaws.{given_pair_lem, given_nothing}
-use Rattle.deeds.proofs.CascadeLaws.{given_stands, given_gives_way}
 use Rattle.deeds.proofs.ConflictLaws.{told, passed}
 
 -- 27 and 28: number n, where a search over some rows between xs and ys gave v.
-module _ (rows : ℕ → ℕ) (n xs ys : ℕ) {v : Found} (found : v ≡ found_pair (between rows xs ys)) where
+module _ (rows : ℕ → ℕ) (n xs ys : ℕ) (rest : Said) {v : Option (ℕ × ℕ)} (found : v ≡ found_pair (between rows xs ys)) where
   -- A pair is told ..
-  pub between_told : {x y : ℕ} → v ≡ Pair x y → say_xy n x y ≡ given_pair n (between rows xs ys) accepted
-  between_told p = sym (given_pair_lem _ n 0 accepted found p)
+  pub between_told : {x y : ℕ} → v ≡ Some (x, y) → say_xy n x y ≡ given_pair n (between rows xs ys) rest
+  between_told p = sym (given_pair_lem _ n 0 rest found p)
 
-  -- .. and without one nothing is.
-  pub between_none : v ≡ Nothing → accepted ≡ given_pair n (between rows xs ys) accepted
-  between_none p = sym (given_nothing _ n 0 accepted found p)
+  -- .. and without one the rest is asked.
+  pub between_none : v ≡ None → {out : Said} → out ≡ rest → out ≡ given_pair n (between rows xs ys) rest
+  between_none p q = q ∙ sym (given_nothing _ n 0 rest found p)
 
-module _ (d : Book) (a b : ℕ) where
+module _ (d : Book) (a b : ℕ) (fs : List Conflict) where
   -- Where xs and ys are the groups of a and b, this is what 27 asks ..
-  pub sme_groups : {xs ys : ℕ} {out : Said} → xs ≡ role_group d a → ys ≡ role_group d b → out ≡ given_pair 27 (between (d.row SME) xs ys) accepted
-      → out ≡ first_of (sme_between_groups ∷ []) d a b
+  pub sme_groups : {xs ys : ℕ} {out : Said} → xs ≡ role_group d a → ys ≡ role_group d b
+      → out ≡ given_pair 27 (between (d.row SME) xs ys) (first_of fs d a b) → out ≡ first_of (sme_between_groups ∷ fs) d a b
   unfolding first_of sme_between_groups
-  sme_groups e f p = p ∙ (λ i. given_pair 27 (between (d.row SME) (e i) (f i)) accepted)
+  sme_groups e f p = p ∙ (λ i. given_pair 27 (between (d.row SME) (e i) (f i)) (first_of fs d a b))
 
   -- .. also where they were made of the subject groups ..
   pub sme_around : Sized d → a < 64 → b < 64 → {xs ys wide-xs wide-ys : ℕ} {out : Said} → xs ≡ subject_group d a → ys ≡ subject_group d b
       → wide-xs ≡ close 64 (mixed d SB RB) xs → wide-ys ≡ close 64 (mixed d SB RB) ys
-      → out ≡ given_pair 27 (between (d.row SME) wide-xs wide-ys) accepted → out ≡ first_of (sme_between_groups ∷ []) d a b
+      → out ≡ given_pair 27 (between (d.row SME) wide-xs wide-ys) (first_of fs d a b) → out ≡ first_of (sme_between_groups ∷ fs) d a b
   sme_around s ha hb e f p q =
       sme_groups (p ∙ ap (close 64 (mixed d SB RB)) e ∙ around d s a ha) (q ∙ ap (close 64 (mixed d SB RB)) f ∙ around d s b hb)
 
   -- .. and 28.
-  pub dme_groups : {xs ys : ℕ} {out : Said} → xs ≡ subject_group d a → ys ≡ subject_group d b → out ≡ given_pair 28 (between (d.row DME) xs ys) accepted
-      → out ≡ first_of (dme_between_groups ∷ []) d a b
+  pub dme_groups : {xs ys : ℕ} {out : Said} → xs ≡ subject_group d a → ys ≡ subject_group d b
+      → out ≡ given_pair 28 (between (d.row DME) xs ys) (first_of fs d a b) → out ≡ first_of (dme_between_groups ∷ fs) d a b
   unfolding first_of dme_between_groups
-  dme_groups e f p = p ∙ (λ i. given_pair 28 (between (d.row DME) (e i) (f i)) accepted)
+  dme_groups e f p = p ∙ (λ i. given_pair 28 (between (d.row DME) (e i) (f i)) (first_of fs d a b))
 
-  -- 27 was asked by itself, and s is its answer: it stands ..
-  module _ {s : Said} (asked : s ≡ first_of (sme_between_groups ∷ []) d a b) where
-    pub sme_stands : is_accepted s ≡ false → s ≡ first_of (sme_between_groups ∷ dme_between_groups ∷ []) d a b
-    unfolding first_of sme_between_groups given_pair_in
-    sme_stands e = asked ∙ given_stands (some_pair _) 27 _ _ (sym (λ i. is_accepted (asked i)) ∙ e)
-
-    -- .. or it was silent, and 28 is asked.
-    pub dme_next : is_accepted s ≡ true → {out : Said} → out ≡ first_of (dme_between_groups ∷ []) d a b
-        → out ≡ first_of (sme_between_groups ∷ dme_between_groups ∷ []) d a b
-    unfolding first_of sme_between_groups given_pair_in
-    dme_next e p = p ∙ given_gives_way (some_pair _) 27 _ _ (sym (λ i. is_accepted (asked i)) ∙ e)
-
+module _ (d : Book) (a b : ℕ) where
   -- Kind 6. 20: a is b.
   pub rb_self : a ≡ b → say 20 ≡ first_of rb_conflicts d a b
   unfolding rb_conflicts self_constraint

@@ -1,17 +1,21 @@
 // The words of the book on a lent slice: rows read and cells written by index. Where each word lies is known here alone.
-// Whoever calls these has seen that the slice is full; the tables are numbered as in document 01's list.
+// That the slice is full its type says; the tables are numbered as in document 01's list.
+//
+// Stays: numbers below 64 are u64 with a `requires`: they shift, add to and compare with words and with what C gives; as a type of their own
+// each clause would say `r.n` for r, and each loop over 0 to 63 would build one.
 #![tactic(auto)]
 
 ghost use Rattle.std.specs.Prelude.{◌≡◌, ◌+◌, ◌*◌, ◌≤◌, ◌<◌};
 ghost use Rattle.sets.specs.Mask.{bit};
-ghost use Rattle.rules.specs.Book.{head_words, table_count, table_at, cells_at, cell_base, cell_of, role_in, subject_in};
-ghost use Rattle.book.specs.Slice.{tables, Full, Became, with_head, with_row, with_cell, with_member, without_member};
+ghost use Rattle.rules.specs.Book.{head_words, table_at, cells_at, cell_base, cell_of, role_in, subject_in};
+ghost use Rattle.book.specs.Tables.{number};
+ghost use Rattle.book.specs.Slice.{tables, Became, with_head, with_row, with_cell, with_member, without_member};
 
 // How many words a book has.
 pub const WORDS: usize = 4676;
 
-// The same, as a place: no word lies there.
-pub const END: u64 = WORDS as u64;
+// The words of a book.
+pub type Words = [u64; WORDS];
 
 // How many of them stand before the tables.
 const HEAD: u64 = 4;
@@ -23,40 +27,50 @@ const CELLS: u64 = 580;
 const CELL_BASE: u64 = 128;
 
 // The head's three masks: the defined tasks, roles and subjects.
+// Stays: numbers and no enum, since the head has a word 3 besides, which only the scan reads, and kinds 1 to 3 count them.
 pub const TASKS: u64 = 0;
 
 pub const ROLES: u64 = 1;
 
 pub const SUBJECTS: u64 = 2;
 
-// The nine tables: four of task pairs, each with the row of a task ..
-pub const SME: u64 = 0;
+// The nine tables of document 01, in its order: that is how they are numbered, and where they stand.
+#[derive(Clone, Copy, PartialEq, Eq)]
+pub enum Table {
+    // Four of task pairs, each with the row of a task ..
+    Sme,
+    Dme,
+    Rb,
+    Sb,
+    // .. the direct juniors and the tasks of a role ..
+    Juniors,
+    TasksOf,
+    // .. the roles of a subject and its active role, plus 1 ..
+    RolesOf,
+    Active,
+    // .. and the tasks of an order.
+    Orders,
+}
 
-pub const DME: u64 = 1;
-
-pub const RB: u64 = 2;
-
-pub const SB: u64 = 3;
-
-// .. the direct juniors and the tasks of a role ..
-pub const JUNIORS: u64 = 4;
-
-pub const TASKS_OF: u64 = 5;
-
-// .. the roles of a subject and its active role, plus 1 ..
-pub const ROLES_OF: u64 = 6;
-
-pub const ACTIVE: u64 = 7;
-
-// .. and the tasks of an order.
-pub const ORDERS: u64 = 8;
+// All nine in that order: table k at place k.
+pub const TABLES: [Table; 9] = [
+    Table::Sme,
+    Table::Dme,
+    Table::Rb,
+    Table::Sb,
+    Table::Juniors,
+    Table::TasksOf,
+    Table::RolesOf,
+    Table::Active,
+    Table::Orders,
+];
 
 // Where row r of a table stands.
-pub fn row_at(table: u64, r: u64) -> u64
-    requires { (table < table_count) × (r < 64) }
-    ensures { result ≡ table_at table + r }
+pub fn row_at(table: Table, r: u64) -> u64
+    requires { r < 64 }
+    ensures { result ≡ table_at (number table) + r }
 {
-    HEAD + 64 * table + r
+    HEAD + 64 * table as u64 + r
 }
 
 // Where the cell of an order and a task stands.
@@ -68,38 +82,39 @@ pub fn cell_at(order: u64, task: u64) -> u64
 }
 
 // A word of the head: the defined tasks, roles or subjects, or word 3.
-pub fn head(book: &[u64], i: u64) -> u64
-    requires { Full book.now × (i < head_words) }
+pub fn head(book: &Words, i: u64) -> u64
+    requires { i < head_words }
     ensures { result ≡ (tables book.now).head i }
 {
     book[i as usize]
 }
 
 // Row r of a table.
-pub fn row(book: &[u64], table: u64, r: u64) -> u64
-    requires { Full book.now × (table < table_count) × (r < 64) }
-    ensures { result ≡ (tables book.now).row table r }
+pub fn row(book: &Words, table: Table, r: u64) -> u64
+    requires { r < 64 }
+    ensures { result ≡ (tables book.now).row (number table) r }
 {
     book[row_at(table, r) as usize]
 }
 
 // Whether number i is in row r of a table.
-pub fn is_in_row(book: &[u64], table: u64, r: u64, i: u64) -> bool
-    requires { Full book.now × (table < table_count) × (r < 64) × (i < 64) }
-    ensures { result ≡ bit ((tables book.now).row table r) i }
+pub fn is_in_row(book: &Words, table: Table, r: u64, i: u64) -> bool
+    requires { (r < 64) × (i < 64) }
+    ensures { result ≡ bit ((tables book.now).row (number table) r) i }
 {
     sets::has(row(book, table, r), i)
 }
 
 // The cell of an order and a task.
-pub fn cell(book: &[u64], order: u64, task: u64) -> u64
-    requires { Full book.now × (order < 64) × (task < 64) }
+pub fn cell(book: &Words, order: u64, task: u64) -> u64
+    requires { (order < 64) × (task < 64) }
     ensures { result ≡ (tables book.now).cell order task }
 {
     book[cell_at(order, task) as usize]
 }
 
 // The executing role in a cell, plus 1; 0 for none.
+// Stays: 0 for none, here and for the subject: that is how document 01 writes E and S into the word, and `role_in` promises the word's own.
 pub fn role_in(cell: u64) -> u64
     ensures { result ≡ role_in cell }
 {
@@ -122,42 +137,42 @@ pub fn cell_of(role: u64, subject: u64) -> u64
 }
 
 // Word i of the head is v.
-pub fn set_head(book: &mut [u64], i: u64, v: u64)
-    requires { Full book.old × (i < head_words) }
+pub fn set_head(book: &mut Words, i: u64, v: u64)
+    requires { i < head_words }
     ensures { Became book.old book.new (with_head i v) }
 {
     book[i as usize] = v;
 }
 
 // Row r of a table is v.
-pub fn set_row(book: &mut [u64], table: u64, r: u64, v: u64)
-    requires { Full book.old × (table < table_count) × (r < 64) }
-    ensures { Became book.old book.new (with_row table r v) }
+pub fn set_row(book: &mut Words, table: Table, r: u64, v: u64)
+    requires { r < 64 }
+    ensures { Became book.old book.new (with_row (number table) r v) }
 {
     book[row_at(table, r) as usize] = v;
 }
 
 // The cell of an order and a task is v.
-pub fn set_cell(book: &mut [u64], order: u64, task: u64, v: u64)
-    requires { Full book.old × (order < 64) × (task < 64) }
+pub fn set_cell(book: &mut Words, order: u64, task: u64, v: u64)
+    requires { (order < 64) × (task < 64) }
     ensures { Became book.old book.new (with_cell order task v) }
 {
     book[cell_at(order, task) as usize] = v;
 }
 
 // Number i joins row r of a table.
-pub fn add_to_row(book: &mut [u64], table: u64, r: u64, i: u64)
-    requires { Full book.old × (table < table_count) × (r < 64) × (i < 64) }
-    ensures { Became book.old book.new (with_member table r i) }
+pub fn add_to_row(book: &mut Words, table: Table, r: u64, i: u64)
+    requires { (r < 64) × (i < 64) }
+    ensures { Became book.old book.new (with_member (number table) r i) }
 {
     let mask = row(book, table, r);
     set_row(book, table, r, sets::add(mask, i));
 }
 
 // Number i leaves row r of a table.
-pub fn take_from_row(book: &mut [u64], table: u64, r: u64, i: u64)
-    requires { Full book.old × (table < table_count) × (r < 64) × (i < 64) }
-    ensures { Became book.old book.new (without_member table r i) }
+pub fn take_from_row(book: &mut Words, table: Table, r: u64, i: u64)
+    requires { (r < 64) × (i < 64) }
+    ensures { Became book.old book.new (without_member (number table) r i) }
 {
     let mask = row(book, table, r);
     set_row(book, table, r, sets::remove(mask, i));

@@ -1,97 +1,72 @@
 // Things as they are told: the number, and behind it the name where the panel has been given one.
 #![tactic(auto)]
 
-ghost use Rattle.std.specs.Prelude.{◌<◌};
+use labels::Sort;
+use output::Paper;
 
-// The word of a sort.
-pub fn sort(paper: &mut [u8], sort: u64) {
-    match sort {
-        labels::TASK => output::bytes(paper, b"task"),
-        labels::ROLE => output::bytes(paper, b"role"),
-        labels::PERSON => output::bytes(paper, b"person"),
-        _ => output::bytes(paper, b"order"),
-    }
+// What things are told with: the paper, and the panel's names.
+#[derive(Drop)]
+pub struct Pen<'p, 'a> {
+    pub paper: &'p mut Paper<'a>,
+    pub names: &'p [u8],
 }
 
-// The name of a thing; nothing where it has none.
-pub fn name(paper: &mut [u8], names: &[u8], sort: u64, n: u64) {
-    let end = labels::length_of(names, sort, n);
-    let mut i: usize = 0;
-    while i < end {
-        output::byte(paper, labels::letter(names, sort, n, i));
-        i += 1;
+impl<'p, 'a> Pen<'p, 'a> {
+    // The word of a sort.
+    pub fn sort(&mut self, sort: Sort) {
+        self.paper.text(match sort {
+            Sort::Task => "task",
+            Sort::Role => "role",
+            Sort::Person => "person",
+            _ => "order",
+        });
     }
-}
 
-// A thing: `0 (wake)`, or `0` where it has no name.
-pub fn thing(paper: &mut [u8], names: &[u8], sort: u64, n: u64) {
-    output::number(paper, n);
-    if labels::length_of(names, sort, n) == 0 {
-        return;
+    // The name of a thing; nothing where it has none.
+    pub fn name(&mut self, sort: Sort, n: u64) {
+        self.paper.bytes(labels::name_of(self.names, sort, n));
     }
-    output::bytes(paper, b" (");
-    name(paper, names, sort, n);
-    output::bytes(paper, b")");
-}
 
-// A blank, where there is something to part.
-fn gap(paper: &mut [u8], wanted: bool) {
-    if wanted {
-        output::byte(paper, b' ');
+    // A thing: `0 (wake)`, or `0` where it has no name.
+    pub fn thing(&mut self, sort: Sort, n: u64) {
+        self.paper.number(n);
+        if !labels::name_of(self.names, sort, n).is_empty() {
+            self.paper.text(" (");
+            self.name(sort, n);
+            self.paper.text(")");
+        }
     }
-}
 
-// A number of the set, parted from the members before it; nothing where it is no member.
-fn member(paper: &mut [u8], names: &[u8], sort: u64, set: u64, n: u64)
-    requires { n < 64 }
-{
-    if sets::has(set, n) {
-        gap(paper, sets::lowest(set) < n);
-        thing(paper, names, sort, n);
+    // The members of a set of things, parted by blanks; - where it is empty.
+    pub fn things(&mut self, sort: Sort, set: u64) {
+        if set == 0 {
+            self.paper.byte(b'-');
+        }
+        for (i, n) in sets::each(set).enumerate() {
+            if i != 0 {
+                self.paper.byte(b' ');
+            }
+            self.thing(sort, n);
+        }
     }
-}
-
-// The members of a set of things; - where it is empty.
-pub fn things(paper: &mut [u8], names: &[u8], sort: u64, set: u64) {
-    if set == 0 {
-        output::byte(paper, b'-');
-        return;
-    }
-    for n in 0..64u64 {
-        member(paper, names, sort, set, n);
-    }
-}
-
-// The sum of two widths. No line is so wide that the bound matters.
-fn sum(left: u64, right: u64) -> u64 {
-    if 65535 < left {
-        return 65536;
-    }
-    if 65535 < right {
-        return 65536;
-    }
-    left + right
 }
 
 // How many bytes a thing takes behind `before` others, with the blank that parts it from them.
-fn width_with(names: &[u8], sort: u64, n: u64, before: u64) -> u64 {
+fn width_with(names: &[u8], sort: Sort, n: u64, before: u64) -> u64 {
     let digits = if n < 10 { 1 } else { 2 };
-    let name = labels::length_of(names, sort, n) as u64;
-    let named = if name == 0 { 0 } else { sum(name, 3) };
+    let name = labels::name_of(names, sort, n).len() as u64;
+    let named = if name == 0 { 0 } else { name.saturating_add(3) };
     let gap = if before == 0 { 0 } else { 1 };
-    sum(sum(before, gap), sum(digits, named))
+    before
+        .saturating_add(gap)
+        .saturating_add(digits)
+        .saturating_add(named)
 }
 
 // How many bytes the members of a set of things take.
-pub fn width(names: &[u8], sort: u64, set: u64) -> u64 {
+pub fn width(names: &[u8], sort: Sort, set: u64) -> u64 {
     if set == 0 {
         return 1;
     }
-    let mut wide: u64 = 0;
-    for n in 0..64u64 {
-        if sets::has(set, n) {
-            wide = width_with(names, sort, n, wide);
-        }
-    }
-    wide
+    sets::each(set).fold(0, |wide, n| width_with(names, sort, n, wide))
 }

@@ -12,6 +12,7 @@ const ERRORS: i32 = 2;
 
 const TO_COMMAND: i32 = 3;
 
+// Stays: a status is a number, since `end` takes any, and programs alone call it; an enum of these two would ask more of a caller.
 // A request was refused, where it was asked to tell that.
 pub const REFUSED: u8 = 1;
 
@@ -21,21 +22,6 @@ pub const BROKEN: u8 = 3;
 // The status of a program that ends since the reader of its output has closed it, as the signal of that would end it.
 pub const CLOSED: u8 = 141;
 
-// Whether two texts are the same.
-fn is_same(left: &[u8], right: &[u8]) -> bool {
-    if left.len() != right.len() {
-        return false;
-    }
-    let mut i: usize = 0;
-    while i < left.len() && i < right.len() {
-        if left[i] != right[i] {
-            return false;
-        }
-        i += 1;
-    }
-    true
-}
-
 // Whether argument i is the option, if there is such an argument. One that does not fit is taken as empty.
 fn is_argument(system: &impl Env, i: usize, option: &[u8]) -> Option<bool> {
     let mut room = [0u8; ROOM];
@@ -44,19 +30,14 @@ fn is_argument(system: &impl Env, i: usize, option: &[u8]) -> Option<bool> {
         Err(FillError::TooLong) => 0,
         Err(FillError::NotPresent) => return None,
     };
-    Some(is_same(&room[..got], option))
+    Some(&room[..got] == option)
 }
 
 // Whether the program was started with the option.
 pub fn has_option(system: &impl Env, option: &[u8]) -> bool {
-    for i in 1..usize::MAX {
-        match is_argument(system, i, option) {
-            Some(true) => return true,
-            Some(false) => {}
-            None => return false,
-        }
-    }
-    false
+    (1..usize::MAX)
+        .map_while(|i| is_argument(system, i, option))
+        .any(|same| same)
 }
 
 // Tells the command how it went: REFUSED or BROKEN.

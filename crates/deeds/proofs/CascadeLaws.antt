@@ -1,11 +1,16 @@
 -- How a cascade of early returns shows the answer of the rules: at each test the answer is given, or the rest is asked.
-use mathlib.Core.Path.{◌≡◌, refl, sym, ap, ◌∙◌}
+use mathlib.Core.Path.{◌≡◌, sym, ap, ◌∙◌}
 use mathlib.Core.Bool.{Bool, true, false, true≢false}
-use Prim.Native.Nat.{ℕ, ◌≤◌, ◌<◌}
+use Prim.Native.Nat.{ℕ}
 use lib.Dec.{ltb}
-use borrow.Author.Tests.{lt-ltb, le-ltb}
+use borrow.Author.Tests.{lt-ltb}
+use Rattle.std.specs.Prelude.{Some, None}
 use Rattle.sets.specs.Search.{lowest}
+use Rattle.sets.specs.Members.{IsLowest}
 use Rattle.rules.specs.Numbers.{Named, Said, accepted, says, say_x, given, given_lowest, is_accepted}
+use Rattle.answers.specs.declared.Refusal.{Refusal}
+use Rattle.answers.specs.Answers.{refused}
+use Rattle.answers.proofs.AnswerLaws.{refusal_not_accepted}
 
 module _ (t : Bool) (s rest : Said) where
   -- The test holds: its answer.
@@ -18,34 +23,32 @@ module _ (t : Bool) (s rest : Said) where
   unfolding given
   given_no e p = p ∙ sym (ap (λ (x : Bool). given x s rest) e)
 
-module _ (n : ℕ) (f : ℕ → Bool) (rest : Said) {x : ℕ} (found : x ≡ lowest f) where
+module _ (n : ℕ) (f : ℕ → Bool) (rest : Said) where
   -- A search found x: the number is given with it ..
-  pub lowest_yes : x < 64 → say_x n x ≡ given_lowest n f rest
+  pub lowest_yes : {x : ℕ} → IsLowest f (Some x) → say_x n x ≡ given_lowest n f rest
   unfolding given_lowest
-  lowest_yes h =
-      ap (say_x n) found ∙ given_yes (ltb (lowest f) 64) (say_x n (lowest f)) rest (ap (λ (k : ℕ). ltb k 64) (sym found) ∙ lt-ltb x 64 h)
+  lowest_yes {x} (h, e) =
+      ap (say_x n) (sym e) ∙ given_yes (ltb (lowest f) 64) (say_x n (lowest f)) rest (ap (λ (k : ℕ). ltb k 64) e ∙ lt-ltb x 64 h)
 
   -- .. and where it found nothing the rest is asked.
-  pub lowest_no : {out : Said} → 64 ≤ x → out ≡ rest → out ≡ given_lowest n f rest
+  pub lowest_no : {out : Said} → IsLowest f None → out ≡ rest → out ≡ given_lowest n f rest
   unfolding given_lowest
-  lowest_no h p = given_no (ltb (lowest f) 64) (say_x n (lowest f)) rest (ap (λ (k : ℕ). ltb k 64) (sym found) ∙ le-ltb x 64 h) p
+  lowest_no e p = given_no (ltb (lowest f) 64) (say_x n (lowest f)) rest (ap (λ (k : ℕ). ltb k 64) e) p
 
--- A conflict that was asked by itself: where it gave its number, that is the answer; else the rest is.
-module _ (t : Bool) (n : ℕ) (r : Named) (rest : Said) where
-  pub given_stands : is_accepted (given t (says n r) accepted) ≡ false → given t (says n r) accepted ≡ given t (says n r) rest
+-- A conflict that was asked by itself: where it refuses, that is the answer; where it does not, the rest is asked.
+module _ (t : Bool) (n : ℕ) (named : Named) (rest : Said) where
+  pub given_stands : (r : Refusal) → refused r ≡ given t (says n named) accepted → refused r ≡ given t (says n named) rest
   unfolding given
-  given_stands = go t
+  given_stands r e = go t e
     where
-      go : (x : Bool) → is_accepted (elim x [ true ↦ says n r | false ↦ accepted ]) ≡ false
-          → ◌≡◌ {A = Said} (elim x [ true ↦ says n r | false ↦ accepted ]) (elim x [ true ↦ says n r | false ↦ rest ])
-      go true e = refl
-      go false e = absurd (true≢false e)
+      go : (x : Bool) → refused r ≡ (elim x [ true ↦ says n named | false ↦ accepted ]) → refused r ≡ (elim x [ true ↦ says n named | false ↦ rest ])
+      go true p = p
+      go false p = absurd (true≢false (sym (ap is_accepted p) ∙ refusal_not_accepted r))
 
-  pub given_gives_way : is_accepted (given t (says n r) accepted) ≡ true → rest ≡ given t (says n r) rest
+  pub given_gives_way : {out : Said} → accepted ≡ given t (says n named) accepted → out ≡ rest → out ≡ given t (says n named) rest
   unfolding given
-  given_gives_way = go t
+  given_gives_way {out} e q = go t e
     where
-      go : (x : Bool) → is_accepted (elim x [ true ↦ says n r | false ↦ accepted ]) ≡ true
-          → ◌≡◌ {A = Said} rest (elim x [ true ↦ says n r | false ↦ rest ])
-      go true e = absurd (true≢false (sym e))
-      go false e = refl
+      go : (x : Bool) → accepted ≡ (elim x [ true ↦ says n named | false ↦ accepted ]) → out ≡ (elim x [ true ↦ says n named | false ↦ rest ])
+      go true p = absurd (true≢false (ap is_accepted p))
+      go false p = q

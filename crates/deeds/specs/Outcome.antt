@@ -5,8 +5,7 @@ use Rattle.rules.specs.Book.{Book}
 use Rattle.rules.specs.Requests.{Deed, change}
 use Rattle.rules.specs.Numbers.{Said, accepted, says, or_else, state_refusal, conflicts, first_of}
 use Rattle.book.specs.Slice.{tables, Full}
-use Rattle.answers.specs.declared.Answer.{Answer}
-use Rattle.answers.specs.Answers.{said}
+use Rattle.answers.specs.Answers.{Answer, said}
 
 -- the refusals of the deed first (3, 5 to 11; in kind 13 also 4), then the conflicts
 unfoldable pub decide : Book → Deed → ℕ → ℕ → ℕ → Said

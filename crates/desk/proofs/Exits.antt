@@ -2,18 +2,20 @@
 use mathlib.Core.Path.{◌≡◌, refl, sym, ap, ◌∙◌}
 use mathlib.Core.Bool.{false, not, true≢false}
 use mathlib.Core.List.{List}
-use Prim.Native.Nat.{ℕ, ◌≤◌, ◌<◌}
+use Prim.Native.Nat.{ℕ, ◌<◌}
 use native.Mathlib.Omega.{arith}
 use lib.Dec.{ltb}
 use lib.ListN.{length}
-use borrow.Author.Tests.{eq-eqb, ne_eqb, lt-ltb, le-ltb}
+use borrow.Author.Tests.{eq-eqb, ne_eqb, lt-ltb}
 use Rattle.rules.specs.Book.{Book, book_words, read, write, first_bad}
 use Rattle.rules.specs.Requests.{Request, row_of}
 use Rattle.rules.specs.Numbers.{Said, accepted, says, say, say_x, or_else, conflict, refusal, judge, blind, answer, words_after, is_accepted}
 use Rattle.rules.proofs.BookLaws.{write_read}
 use Rattle.book.specs.Slice.{words, tables, Full}
-use Rattle.answers.specs.declared.Answer.{Answer}
-use Rattle.answers.specs.Answers.{said}
+use Rattle.std.specs.Prelude.{Err}
+use Rattle.answers.specs.declared.Refusal.{Refusal}
+use Rattle.answers.specs.Answers.{Answer, refused}
+use Rattle.answers.proofs.AnswerLaws.{refusal_not_accepted}
 use Rattle.deeds.specs.Outcome.{decide, settle, Settled}
 use Rattle.deeds.proofs.CascadeLaws.{given_yes, given_no}
 use Rattle.ask.specs.Arguments.{fault_of}
@@ -26,12 +28,13 @@ unfolding words_after
 kept_word accepted w q i e = absurd (true≢false e)
 kept_word (says n r) w q i e = refl
 
-pub refused : (l : List ℕ) (q : Request) {r : Answer} → said r ≡ answer (length l) (words l) q → is_accepted (said r) ≡ false → Answered l l q r
-refused l q told e = record {
+-- So a refusal leaves the book alone.
+pub left_alone : (l : List ℕ) (q : Request) {r : Refusal} → refused r ≡ answer (length l) (words l) q → Answered l l q (Err r)
+left_alone l q {r} told = record {
   told = told;
   stored = record {
     as_long = refl;
-    each_word = λ i h. kept_word (answer (length l) (words l) q) (words l) q i (ap is_accepted (sym told) ∙ e);
+    each_word = λ i h. kept_word (answer (length l) (words l) q) (words l) q i (ap is_accepted (sym told) ∙ refusal_not_accepted r);
   };
 }
 
@@ -50,21 +53,22 @@ module _ (l : List ℕ) (q : Request) where
     right_length e = given_no _ _ _ (ap not (eq-eqb (length l) book_words full)) e
 
     -- 2: the lowest bad word.
-    pub bad_word_lem : {i : ℕ} → i ≡ first_bad (tables l) → i < book_words → say_x 2 i ≡ answer (length l) (words l) q
+    pub bad_word_lem : {i : ℕ} → (i < book_words) × (first_bad (tables l) ≡ i) → say_x 2 i ≡ answer (length l) (words l) q
     unfolding judge d
-    bad_word_lem {i} e h = right_length (ap (say_x 2) e ∙ given_yes _ _ _ (ap (λ (k : ℕ). ltb k book_words) (sym e) ∙ lt-ltb i book_words h))
+    bad_word_lem {i} e =
+        right_length (ap (say_x 2) (sym e.1) ∙ given_yes _ _ _ (ap (λ (k : ℕ). ltb k book_words) e.1 ∙ lt-ltb i book_words e.0))
 
-    module _ {i : ℕ} (none : i ≡ first_bad (tables l)) (past : book_words ≤ i) where
+    module _ (none : first_bad (tables l) ≡ book_words) where
       no_bad_word : {s : Said} → s ≡ or_else (refusal d q) (conflict d q) → s ≡ answer (length l) (words l) q
       unfolding judge d
-      no_bad_word e = right_length (given_no _ _ _ (ap (λ (k : ℕ). ltb k book_words) (sym none) ∙ le-ltb i book_words past) e)
+      no_bad_word e = right_length (given_no _ _ _ (ap (λ (k : ℕ). ltb k book_words) none) e)
 
       -- 4: the first argument at fault.
-      pub argument_fault_lem : {f : ℕ} → f ≡ fault_of (tables l) (row_of q.kind) q.a q.b q.c → (f ≡ 0 → ⊥) → say_x 4 f ≡ answer (length l) (words l) q
+      pub argument_fault_lem : {f : ℕ} → (0 < f) × (fault_of (tables l) (row_of q.kind) q.a q.b q.c ≡ f) → say_x 4 f ≡ answer (length l) (words l) q
       unfolding refusal or_else d
-      argument_fault_lem e n =
+      argument_fault_lem {f} e =
           no_bad_word (ap (λ (s : Said). or_else s (conflict d q))
-          (ap (say_x 4) e ∙ sym (at_fault (tables l) (row_of q.kind) q.a q.b q.c _ (λ z. n (e ∙ z)))))
+          (ap (say_x 4) (sym e.1) ∙ sym (at_fault (tables l) (row_of q.kind) q.a q.b q.c _ (λ z. omega arith))))
 
       -- Nothing of 1, 2 and 4: the deed of the kind decides.
       pub carried : fault_of (tables l) (row_of q.kind) q.a q.b q.c ≡ 0

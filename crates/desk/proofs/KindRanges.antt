@@ -11,8 +11,9 @@ use Rattle.rules.specs.Numbers.{or_else, state_refusal, conflicts, first_of}
 use Rattle.rules.proofs.ChangeLaws.{asks_number}
 use Rattle.rules.proofs.TableLaws.{kinds_from, deeds_from, no_kind_past}
 use Rattle.book.specs.Slice.{Full}
-use Rattle.answers.specs.declared.Answer.{Answer}
-use Rattle.answers.specs.declared.Answer.TheVariants.{UnknownKind}
+use Rattle.std.specs.Prelude.{Err}
+use Rattle.answers.specs.declared.Refusal.TheVariants.{UnknownKind}
+use Rattle.answers.specs.Answers.{Answer}
 use Rattle.deeds.specs.Outcome.{decide, Settled}
 use Rattle.deeds.proofs.OutcomeLaws.{settled_for, settled_kept}
 use Rattle.ask.specs.Arguments.{fault_of}
@@ -81,16 +82,16 @@ module _ {before after : List ℕ} {a b c : ℕ} {r : Answer} where
 
 -- No kind: 3, and the book is as it was.
 module _ {before : List ℕ} (a b c : ℕ) (full : Full before) where
-  none_settled : Settled before before nothing a b c UnknownKind
+  none_settled : Settled before before nothing a b c (Err UnknownKind)
   unfolding decide or_else state_refusal
-  none_settled = settled_kept refl refl full
+  none_settled = settled_kept refl full
 
   -- Below 1 ..
-  pub from_none_below : (k : ℕ) → k < 1 → OfKind before before a b c UnknownKind k
+  pub from_none_below : (k : ℕ) → k < 1 → OfKind before before a b c (Err UnknownKind) k
   unfolding row_of table
-  from_none_below k h = let z : 0 ≡ k = omega arith in subst (OfKind before before a b c UnknownKind) z none_settled
+  from_none_below k h = let z : 0 ≡ k = omega arith in subst (OfKind before before a b c (Err UnknownKind)) z none_settled
 
   -- .. and past the last.
-  pub from_none_past : (k : ℕ) → 22 ≤ k → OfKind before before a b c UnknownKind k
+  pub from_none_past : (k : ℕ) → 22 ≤ k → OfKind before before a b c (Err UnknownKind) k
   unfolding table
   from_none_past k h = of_kind k (ap (λ (x : Row). x.deed) (no_kind_past k h)) none_settled

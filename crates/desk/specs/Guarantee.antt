@@ -4,8 +4,7 @@ use Rattle.std.specs.Prelude.{◌≡◌, List, ℕ, ◌<◌, length}
 use Rattle.rules.specs.Requests.{Request}
 use Rattle.rules.specs.Numbers.{answer, words_after}
 use Rattle.book.specs.Slice.{words}
-use Rattle.answers.specs.declared.Answer.{Answer}
-use Rattle.answers.specs.Answers.{said}
+use Rattle.answers.specs.Answers.{Answer, said}
 
 abbrev pub ask : ℕ → ℕ → ℕ → ℕ → Request
 ask kind a b c = record { kind = kind; a = a; b = b; c = c }

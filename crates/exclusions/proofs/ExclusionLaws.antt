@@ -1,11 +1,12 @@
 -- What a new exclusion is answered, from what the code has read by then: the conflicts of kinds 4 and 5, one after the other.
-use mathlib.Core.Path.{◌≡◌, refl}
-use mathlib.Core.Bool.{true, false}
+use mathlib.Core.Path.{◌≡◌, refl, sym, ap, ◌∙◌}
+use mathlib.Core.Bool.{Bool, true, false}
 use mathlib.Core.List.{[], ◌∷◌}
-use Prim.Native.Nat.{ℕ, ◌≤◌, ◌<◌}
+use Prim.Native.Nat.{ℕ}
+use Rattle.std.specs.Prelude.{Some, None}
 use borrow.Author.Tests.{eq-eqb, ne_eqb}
 use Rattle.sets.specs.Mask.{bit}
-use Rattle.sets.specs.Search.{lowest}
+use Rattle.sets.specs.Members.{IsLowest}
 use Rattle.rules.specs.Book.{Book, SME, DME}
 use Rattle.rules.specs.Trade.{role, subject, subject_group, role_group}
 use Rattle.rules.specs.Numbers.{Said, accepted, say, say_x, first_of, owns_both, sme_conflicts, dme_conflicts}
@@ -13,25 +14,29 @@ use Rattle.rules.specs.Numbers.{self_constraint, already_dme, already_sme, one_s
 use Rattle.deeds.proofs.CascadeLaws.{lowest_yes, lowest_no}
 use Rattle.deeds.proofs.ConflictLaws.{told, passed}
 
+-- What is said of a member of a set that was read is said of the set that it is.
+pub member : {read set : ℕ} (i : ℕ) {t : Bool} → read ≡ set → t ≡ bit read i → bit set i ≡ t
+member i e f = sym (f ∙ ap (λ (m : ℕ). bit m i) e)
+
 module _ (d : Book) (a b : ℕ) where
-  -- 25 and 26, with the lowest role x and the lowest subject y that own both tasks.
-  module _ {x : ℕ} (found : x ≡ lowest (owns_both d role a b)) where
-    pub role_owns_both_lem : x < 64 → say_x 25 x ≡ first_of (role_owns_both ∷ subject_owns_both ∷ []) d a b
+  -- 25 and 26, with the lowest role and the lowest subject that own both tasks.
+  pub role_owns_both_lem : {x : ℕ} → IsLowest (owns_both d role a b) (Some x) → say_x 25 x ≡ first_of (role_owns_both ∷ subject_owns_both ∷ []) d a b
+  unfolding first_of role_owns_both
+  role_owns_both_lem found = lowest_yes 25 _ _ found
+
+  module _ (none : IsLowest (owns_both d role a b) None) where
+    subjects_asked : {out : Said} → out ≡ first_of (subject_owns_both ∷ []) d a b → out ≡ first_of (role_owns_both ∷ subject_owns_both ∷ []) d a b
     unfolding first_of role_owns_both
-    role_owns_both_lem h = lowest_yes 25 _ _ found h
+    subjects_asked p = lowest_no 25 _ _ none p
 
-    module _ (none : 64 ≤ x) {y : ℕ} (found' : y ≡ lowest (owns_both d (subject d) a b)) where
-      subjects_asked : {out : Said} → out ≡ first_of (subject_owns_both ∷ []) d a b → out ≡ first_of (role_owns_both ∷ subject_owns_both ∷ []) d a b
-      unfolding first_of role_owns_both
-      subjects_asked p = lowest_no 25 _ _ found none p
+    pub subject_owns_both_lem : {y : ℕ} → IsLowest (owns_both d (subject d) a b) (Some y)
+        → say_x 26 y ≡ first_of (role_owns_both ∷ subject_owns_both ∷ []) d a b
+    unfolding first_of subject_owns_both
+    subject_owns_both_lem found = subjects_asked (lowest_yes 26 _ _ found)
 
-      pub subject_owns_both_lem : y < 64 → say_x 26 y ≡ first_of (role_owns_both ∷ subject_owns_both ∷ []) d a b
-      unfolding first_of subject_owns_both
-      subject_owns_both_lem h = subjects_asked (lowest_yes 26 _ _ found' h)
-
-      pub none_owns_both : 64 ≤ y → accepted ≡ first_of (role_owns_both ∷ subject_owns_both ∷ []) d a b
-      unfolding first_of subject_owns_both
-      none_owns_both h = subjects_asked (lowest_no 26 _ _ found' h refl)
+    pub none_owns_both : IsLowest (owns_both d (subject d) a b) None → accepted ≡ first_of (role_owns_both ∷ subject_owns_both ∷ []) d a b
+    unfolding first_of subject_owns_both
+    none_owns_both none' = subjects_asked (lowest_no 26 _ _ none' refl)
 
   -- Kind 4. 20: a is b.
   pub sme_self : a ≡ b → say 20 ≡ first_of sme_conflicts d a b

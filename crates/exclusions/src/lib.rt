@@ -2,82 +2,64 @@
 #![tactic(auto)]
 
 ghost use Rattle.std.specs.Prelude.{◌≡◌, [], ◌∷◌, ◌<◌};
-ghost use Rattle.sets.specs.Mask.{bit};
-ghost use Rattle.rules.specs.Trade.{subject_group, role_group};
 ghost use Rattle.rules.specs.Numbers.{role_owns_both, subject_owns_both, sme_conflicts, dme_conflicts, first_of};
-ghost use Rattle.book.specs.Slice.{tables, Full, WellFormed};
+ghost use Rattle.book.specs.Slice.{tables, WellFormed};
 ghost use Rattle.answers.specs.Answers.{said};
 
-use answers::Answer;
+use answers::{Answer, Refusal};
+use book::Table;
 use owners::Owner;
 
-// 23: b lies in the subject group of a.
-fn in_subject_group(book: &[u64], a: u64, b: u64) -> bool
-    requires { Full book.now × (a < 64) × (b < 64) }
-    ensures { result ≡ bit (subject_group (tables book.now) a) b }
-{
-    sets::has(trade::subject_group(book, a), b)
-}
-
-// 24: b lies in the role group of a.
-fn in_role_group(book: &[u64], a: u64, b: u64) -> bool
-    requires { Full book.now × (a < 64) × (b < 64) }
-    ensures { result ≡ bit (role_group (tables book.now) a) b }
-{
-    sets::has(trade::role_group(book, a), b)
-}
-
 // 25 and 26: a role, then a subject, owns both tasks.
-fn owned_together(book: &[u64], a: u64, b: u64) -> Answer
+fn owned_together(book: &book::Words, a: u64, b: u64) -> Answer
     requires { WellFormed book.now × (a < 64) × (b < 64) }
     ensures { said result ≡ first_of (role_owns_both ∷ subject_owns_both ∷ []) (tables book.now) a b }
 {
     let xs = owners::owners_of(book, sets::alone(a));
     let ys = owners::owners_of(book, sets::alone(b));
-    let role = owners::lowest_starter(book, Owner::Role, xs, ys);
-    if role < 64 {
-        return Answer::RoleOwnsBoth(role);
+    if let Some(role) = owners::lowest_starter(book, Owner::Role, xs, ys) {
+        return Err(Refusal::RoleOwnsBoth(role));
     }
-    let subject = owners::lowest_starter(book, Owner::Subject, xs, ys);
-    if subject < 64 {
-        return Answer::SubjectOwnsBoth(subject);
+    if let Some(subject) = owners::lowest_starter(book, Owner::Subject, xs, ys) {
+        return Err(Refusal::SubjectOwnsBoth(subject));
     }
-    Answer::Accepted
+    Ok(())
 }
 
 // Kind 4: 20, 21, 23, 24, 25, 26.
-pub fn sme_conflict(book: &[u64], a: u64, b: u64) -> Answer
+pub fn sme_conflict(book: &book::Words, a: u64, b: u64) -> Answer
     requires { WellFormed book.now × (a < 64) × (b < 64) }
     ensures { said result ≡ first_of sme_conflicts (tables book.now) a b }
 {
     if a == b {
-        return Answer::SelfConstraint;
+        return Err(Refusal::SelfConstraint);
     }
-    if book::is_in_row(book, book::DME, a, b) {
-        return Answer::AlreadyDme;
+    if book::is_in_row(book, Table::Dme, a, b) {
+        return Err(Refusal::AlreadyDme);
     }
-    if in_subject_group(book, a, b) {
-        return Answer::OneSubjectGroup;
+    if sets::has(trade::subject_group(book, a), b) {
+        return Err(Refusal::OneSubjectGroup);
     }
-    if in_role_group(book, a, b) {
-        return Answer::OneRoleGroup;
+    if sets::has(trade::role_group(book, a), b) {
+        return Err(Refusal::OneRoleGroup);
     }
     owned_together(book, a, b)
 }
 
 // Kind 5: 20, 22, 23.
-pub fn dme_conflict(book: &[u64], a: u64, b: u64) -> Answer
-    requires { Full book.now × (a < 64) × (b < 64) }
+pub fn dme_conflict(book: &book::Words, a: u64, b: u64) -> Answer
+    requires { (a < 64) × (b < 64) }
     ensures { said result ≡ first_of dme_conflicts (tables book.now) a b }
 {
     if a == b {
-        return Answer::SelfConstraint;
+        return Err(Refusal::SelfConstraint);
     }
-    if book::is_in_row(book, book::SME, a, b) {
-        return Answer::AlreadySme;
+    if book::is_in_row(book, Table::Sme, a, b) {
+        return Err(Refusal::AlreadySme);
     }
-    if !in_subject_group(book, a, b) {
-        return Answer::Accepted;
+    if sets::has(trade::subject_group(book, a), b) {
+        Err(Refusal::OneSubjectGroup)
+    } else {
+        Ok(())
     }
-    Answer::OneSubjectGroup
 }

@@ -2,14 +2,13 @@
 use mathlib.Core.Path.{◌≡◌, refl, sym, ap, ap₂, ◌∙◌}
 use mathlib.Core.Bool.{Bool, true, false, ◌&&◌, ◌||◌, not}
 use mathlib.Core.List.{List}
-use Prim.Native.Nat.{ℕ, suc, ◌+◌, ◌-◌, ◌^◌, ◌≤◌, ◌<◌}
+use Prim.Native.Nat.{ℕ, suc, ◌+◌, ◌^◌, ◌≤◌, ◌<◌}
 use native.Mathlib.Decide.{ℕ_discrete}
 use native.Mathlib.Omega.{arith}
 use lib.Dec.{eqb}
 use lib.Bits.{bit_or, or_zero_r}
 use lib.ListN.{length, set}
 use lib.Seq.{get_or-set_same, get_or-set_other}
-use borrow.Author.Tests.{eq-eqb, ne_eqb}
 use Rattle.sets.specs.Mask.{bit, with, only}
 use Rattle.sets.proofs.Logic.{or_fails_out}
 use Rattle.sets.proofs.MaskLaws.{bit-or}
@@ -21,21 +20,6 @@ use Rattle.hand_rules.specs.Hands.{noted, alike}
 -- A task is noted where S is the subject's number plus 1, and nowhere else.
 abbrev noted_if : Bool → ℕ → ℕ → ℕ
 noted_if there t v = elim there [ true ↦ with v t | false ↦ v ]
-
-pub noted_no : (s t k v : ℕ) → (s ≡ suc k → ⊥) → v ≡ noted s t k v
-noted_no s t k v n = sym (ap (λ (x : Bool). noted_if x t v) (ne_eqb s (suc k) n))
-
-noted_yes : (s t k v : ℕ) → s ≡ suc k → with v t ≡ noted s t k v
-noted_yes s t k v e = sym (ap (λ (x : Bool). noted_if x t v) (eq-eqb s (suc k) e))
-
--- So one store notes it for all subjects.
-pub noted_set : (l : List ℕ) (s t k : ℕ) {v : ℕ} → 0 < s → s - 1 < length l → v ≡ with (words l (s - 1)) t
-    → words (set l (s - 1) v) k ≡ noted s t k (words l k)
-noted_set l s t k {v} some h e = go (ℕ_discrete k (s - 1))
-  where
-    go : Dec (k ≡ s - 1) → words (set l (s - 1) v) k ≡ noted s t k (words l k)
-    go (yes q) = rw q (get_or-set_same l (s - 1) v 0 h ∙ e ∙ noted_yes s t (s - 1) (words l (s - 1)) (omega arith))
-    go (no q) = get_or-set_other l (s - 1) k v 0 q ∙ noted_no s t k (words l k) (λ z. q (omega arith))
 
 -- What is noted joins what was held: the task's row, of those that make up what the subject holds.
 pub noted_joins : (s t k v : ℕ) → noted s t k v ≡ bit_or v (only (eqb s (suc k)) (2 ^ t))

@@ -1,5 +1,5 @@
 -- Rules 9 and 10 as the audit looks for them: for rule 9 who holds what, for rule 10 each group of an order from its lowest task.
-use Rattle.std.specs.Prelude.{◌≡◌, Bool, true, false, ◌&&◌, List, ℕ, suc, ◌<◌, eqb, length}
+use Rattle.std.specs.Prelude.{◌≡◌, Bool, true, false, ◌&&◌, List, ℕ, suc, ◌<◌, eqb}
 use Rattle.std.specs.Int.Bits.{bit_and, bit_or}
 use Rattle.sets.specs.Mask.{bit, with, only}
 use Rattle.sets.specs.Search.{lowest, all}
@@ -20,11 +20,11 @@ noted s t k v = elim (eqb s (suc k)) [ true ↦ with v t | false ↦ v ]
 
 -- what each subject is noted with became what it was and what it holds in order p
 abbrev pub NotedIn : Book → ℕ → List ℕ → List ℕ → Type 0
-NotedIn d p before after = (length after ≡ 64) × ((s : ℕ) → s < 64 → words after s ≡ bit_or (words before s) (held_by d p s))
+NotedIn d p before after = (s : ℕ) → s < 64 → words after s ≡ bit_or (words before s) (held_by d p s)
 
 -- what each is noted with anywhere became what it was and what is noted here
 abbrev pub Gathered : List ℕ → List ℕ → List ℕ → Type 0
-Gathered held before after = (length after ≡ 64) × ((s : ℕ) → s < 64 → words after s ≡ bit_or (words before s) (words held s))
+Gathered held before after = (s : ℕ) → s < 64 → words after s ≡ bit_or (words before s) (words held s)
 
 -- who is undefined is noted with nothing
 abbrev pub OnlyDefined : Book → List ℕ → Type 0

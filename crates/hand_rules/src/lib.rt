@@ -3,26 +3,27 @@
 // task in an order.
 #![tactic(auto)]
 
-ghost use Rattle.std.specs.Prelude.{◌≡◌, false, not, ℕ, ◌≤◌, ◌<◌, length};
+ghost use Rattle.std.specs.Prelude.{◌≡◌, false, not, ℕ, ◌≤◌, ◌<◌};
 ghost use Rattle.sets.specs.Search.{all};
-ghost use Rattle.rules.specs.Book.{table_count};
 ghost use Rattle.rules.specs.Audit.{pair_free, broken};
-ghost use Rattle.book.specs.Slice.{words, tables, Full, WellFormed};
+ghost use Rattle.book.specs.Tables.{number};
+ghost use Rattle.book.specs.Slice.{words, tables, WellFormed};
 ghost use Rattle.hand_rules.specs.Hands.{Opens, noted, NotedIn, Gathered, OnlyDefined, dme_apart_in};
 ghost use Rattle.hand_rules.specs.Hands.{from_lowest, alike, same_hand, together_in, bound_together};
 
+use book::Table;
+
 // The open orders, those that have a task, as a set.
-fn open_orders(book: &[u64]) -> u64
-    requires { Full book.now }
+fn open_orders(book: &book::Words) -> u64
     ensures { Opens (tables book.now) result }
 {
-    search::meeting(book, book::ORDERS, !0, !0)
+    search::meeting(book, Table::Orders, !0, !0)
 }
 
 // Task t is noted as held by the subject of its cell, which is given plus 1; 0 is nobody.
 fn note(held: &mut [u64; 64], s: u64, t: u64)
-    requires { (length held.old ≡ 64) × (s ≤ 64) × (t < 64) }
-    ensures { (length held.new ≡ 64) × ((k : ℕ) → words held.new k ≡ noted s t k (words held.old k)) }
+    requires { (s ≤ 64) × (t < 64) }
+    ensures { (k : ℕ) → words held.new k ≡ noted s t k (words held.old k) }
 {
     if s == 0 {
         return;
@@ -32,63 +33,54 @@ fn note(held: &mut [u64; 64], s: u64, t: u64)
 }
 
 // Notes for each subject what it holds in the order, beside what it was noted with before.
-fn note_order(book: &[u64], order: u64, held: &mut [u64; 64])
-    requires { WellFormed book.now × (order < 64) × (length held.old ≡ 64) }
+fn note_order(book: &book::Words, order: u64, held: &mut [u64; 64])
+    requires { WellFormed book.now × (order < 64) }
     ensures { NotedIn (tables book.now) order held.old held.new }
 {
-    let mut left = book::row(book, book::ORDERS, order);
-    while left != 0 {
-        let t = sets::lowest(left);
+    for t in sets::each(book::row(book, Table::Orders, order)) {
         note(held, book::subject_in(book::cell(book, order, t)), t);
-        left = sets::rest(left);
     }
 }
 
 // Whether what each subject is noted with holds no pair of the table. Who is undefined is noted with nothing.
-fn are_free(book: &[u64], table: u64, held: &[u64; 64]) -> bool
-    requires { Full book.now × (table < table_count) × (length held.now ≡ 64) × OnlyDefined (tables book.now) held.now }
-    ensures { result ≡ all 64 (λ s. pair_free ((tables book.now).row table) (words held.now s)) }
+fn are_free(book: &book::Words, table: Table, held: &[u64; 64]) -> bool
+    requires { OnlyDefined (tables book.now) held.now }
+    ensures { result ≡ all 64 (λ s. pair_free ((tables book.now).row (number table)) (words held.now s)) }
 {
-    let mut left = book::head(book, book::SUBJECTS);
-    while left != 0 {
-        if !search::is_pair_free(book, table, held[sets::lowest(left) as usize]) {
+    for s in sets::each(book::head(book, book::SUBJECTS)) {
+        if !search::is_pair_free(book, table, held[s as usize]) {
             return false;
         }
-        left = sets::rest(left);
     }
     true
 }
 
 // What each subject is noted with joins what it is noted with anywhere.
 fn gather(held: &[u64; 64], anywhere: &mut [u64; 64])
-    requires { (length held.now ≡ 64) × (length anywhere.old ≡ 64) }
     ensures { Gathered held.now anywhere.old anywhere.new }
 {
-    let mut s: usize = 0;
-    while s < 64 {
-        anywhere[s] = anywhere[s] | held[s];
-        s += 1;
+    for (s, here) in held.iter().enumerate() {
+        anywhere[s] |= *here;
     }
 }
 
 // Rule 9 for DME in one order: nobody holds both tasks of a pair in it. What each holds in it joins what they hold anywhere. An order that is
 // not open asks nothing, and nothing is held in it.
-fn is_dme_apart_in(book: &[u64], order: u64, anywhere: &mut [u64; 64]) -> bool
-    requires { WellFormed book.now × (order < 64) × (length anywhere.old ≡ 64) }
-    ensures { (result ≡ dme_apart_in (tables book.now) order)
-        × NotedIn (tables book.now) order anywhere.old anywhere.new }
+fn is_dme_apart_in(book: &book::Words, order: u64, anywhere: &mut [u64; 64]) -> bool
+    requires { WellFormed book.now × (order < 64) }
+    ensures { (result ≡ dme_apart_in (tables book.now) order) × NotedIn (tables book.now) order anywhere.old anywhere.new }
 {
-    if book::row(book, book::ORDERS, order) == 0 {
+    if book::row(book, Table::Orders, order) == 0 {
         return true;
     }
     let mut held = [0u64; 64];
     note_order(book, order, &mut held);
     gather(&held, anywhere);
-    are_free(book, book::DME, &held)
+    are_free(book, Table::Dme, &held)
 }
 
 // Rule 9: DME in each order by itself, then SME of what is held in all of them together.
-pub fn are_apart(book: &[u64]) -> bool
+pub fn are_apart(book: &book::Words) -> bool
     requires { WellFormed book.now }
     ensures { result ≡ not (broken (tables book.now) 9) }
 {
@@ -98,7 +90,7 @@ pub fn are_apart(book: &[u64]) -> bool
             return false;
         }
     }
-    are_free(book, book::SME, &anywhere)
+    are_free(book, Table::Sme, &anywhere)
 }
 
 // The set, where u is its lowest member; else nothing.
@@ -118,27 +110,24 @@ fn is_alike(subjects: u64, roles: u64, v: u64, own: u64, other: u64) -> bool
 }
 
 // Rule 10 beside u, in whose cell `own` stands.
-fn is_together(book: &[u64], order: u64, subjects: u64, roles: u64, own: u64) -> bool
-    requires { Full book.now × (order < 64) }
+fn is_together(book: &book::Words, order: u64, subjects: u64, roles: u64, own: u64) -> bool
+    requires { order < 64 }
     ensures { result ≡ all 64 (same_hand (tables book.now) order subjects roles own) }
 {
-    let mut left = subjects | roles;
-    while left != 0 {
-        let v = sets::lowest(left);
+    for v in sets::each(subjects | roles) {
         if !is_alike(subjects, roles, v, own, book::cell(book, order, v)) {
             return false;
         }
-        left = sets::rest(left);
     }
     true
 }
 
 // Rule 10 of u and its groups in one order, where u is the lowest of a group; an order without u asks nothing.
-fn is_together_in(book: &[u64], subjects: u64, roles: u64, u: u64, order: u64) -> bool
-    requires { Full book.now × (u < 64) × (order < 64) }
+fn is_together_in(book: &book::Words, subjects: u64, roles: u64, u: u64, order: u64) -> bool
+    requires { (u < 64) × (order < 64) }
     ensures { result ≡ together_in (tables book.now) subjects roles u order }
 {
-    let tasks = book::row(book, book::ORDERS, order);
+    let tasks = book::row(book, Table::Orders, order);
     if !sets::has(tasks, u) {
         return true;
     }
@@ -152,26 +141,24 @@ fn is_together_in(book: &[u64], subjects: u64, roles: u64, u: u64, order: u64) -
 }
 
 // Rule 10 of u and its groups, in every open order.
-fn is_together_with(book: &[u64], opened: u64, subjects: u64, roles: u64, u: u64) -> bool
-    requires { Full book.now × Opens (tables book.now) opened × (u < 64) }
+fn is_together_with(book: &book::Words, opened: u64, subjects: u64, roles: u64, u: u64) -> bool
+    requires { Opens (tables book.now) opened × (u < 64) }
     ensures { result ≡ all 64 (together_in (tables book.now) subjects roles u) }
 {
-    let mut left = opened;
-    while left != 0 {
-        if !is_together_in(book, subjects, roles, u, sets::lowest(left)) {
+    for order in sets::each(opened) {
+        if !is_together_in(book, subjects, roles, u, order) {
             return false;
         }
-        left = sets::rest(left);
     }
     true
 }
 
 // Rule 10 of u: its groups are made once for all orders, the one from the other. Who is bound to nobody is a group alone.
-fn is_bound_together(book: &[u64], opened: u64, u: u64) -> bool
-    requires { Full book.now × Opens (tables book.now) opened × (u < 64) }
+fn is_bound_together(book: &book::Words, opened: u64, u: u64) -> bool
+    requires { Opens (tables book.now) opened × (u < 64) }
     ensures { result ≡ bound_together (tables book.now) u }
 {
-    if trade::mixed_row(book, book::SB, book::RB, u) == 0 {
+    if trade::mixed_row(book, Table::Sb, Table::Rb, u) == 0 {
         return true;
     }
     let subjects = trade::subject_group(book, u);
@@ -179,17 +166,15 @@ fn is_bound_together(book: &[u64], opened: u64, u: u64) -> bool
 }
 
 // Rule 10, where rule 2 is kept: then the groups of two tasks are the same or apart.
-pub fn are_together(book: &[u64]) -> bool
+pub fn are_together(book: &book::Words) -> bool
     requires { WellFormed book.now × (broken (tables book.now) 2 ≡ false) }
     ensures { result ≡ not (broken (tables book.now) 10) }
 {
     let opened = open_orders(book);
-    let mut left = book::head(book, book::TASKS);
-    while left != 0 {
-        if !is_bound_together(book, opened, sets::lowest(left)) {
+    for u in sets::each(book::head(book, book::TASKS)) {
+        if !is_bound_together(book, opened, u) {
             return false;
         }
-        left = sets::rest(left);
     }
     true
 }

@@ -14,14 +14,15 @@ use Rattle.sets.proofs.SearchLaws.{lowest_end, pair_none}
 use Rattle.rules.specs.Book.{Book, tasks, SME, DME}
 use Rattle.rules.specs.Requests.{is_open, subject_hand}
 use Rattle.rules.specs.Numbers.{Said, accepted, say_xyz, given, some_pair, say_pair, given_pair_in, has_pair, given_lowest_pair, between, held_by}
-use Rattle.rules.specs.Numbers.{holds, held_sme, held_dme, held_conflicts, first_of, is_accepted}
+use Rattle.rules.specs.Numbers.{holds, held_sme, held_dme, held_conflicts, first_of}
 use Rattle.rules.specs.Meaning.{Sized, Formed}
 use Rattle.rules.proofs.Exactly.{itself, exactly_same}
 use Rattle.rules.proofs.HeldLaws.{held_shows, open_order_lem}
-use Rattle.search.specs.declared.Found.{Found}
-use Rattle.search.specs.declared.Found.TheVariants.{Pair, Nothing}
+use Rattle.std.specs.Prelude.{Option, Some, None}
 use Rattle.search.specs.Pairs.{is_pair, found_pair}
 use Rattle.search.proofs.PairLaws.{found_same, found_some, given_pair_lem, given_nothing}
+use Rattle.answers.specs.declared.Refusal.{Refusal}
+use Rattle.answers.specs.Answers.{refused}
 use Rattle.deeds.proofs.CascadeLaws.{given_yes, given_stands, given_gives_way}
 
 -- order p is open, and c holds in it a task that is SME to one of the hand
@@ -37,7 +38,8 @@ sme_silent d c hand at = ap (λ (q : ℕ). given (ltb q 64) (say_pair 33 (holds 
 module _ (d : Book) (s : Sized d) (c hand : ℕ) (hc : c < 64) where
   -- A search among those finds what a search of all that c holds finds.
   pub held_found : (n p those : ℕ) → ((u v : ℕ) → u < 64 → bit (d.row n u) v ≡ true → bit hand v ≡ true → bit those u ≡ true)
-      → {held : ℕ} {v : Found} → held ≡ bit_and (held_by d p c) those → v ≡ found_pair (between (d.row n) held hand) → v ≡ found_pair (holds n d c hand p)
+      → {held : ℕ} {v : Option (ℕ × ℕ)} → held ≡ bit_and (held_by d p c) those → v ≡ found_pair (between (d.row n) held hand)
+      → v ≡ found_pair (holds n d c hand p)
   held_found n p those enough e f =
       f ∙ ap (λ (m : ℕ). found_pair (between (d.row n) m hand)) e
       ∙ found_same (between (d.row n) (bit_and (held_by d p c) those) hand) (holds n d c hand p) (λ u v hu hv. exactly_same (record {
@@ -57,7 +59,7 @@ module _ (d : Book) (s : Sized d) (c hand : ℕ) (hc : c < 64) where
         ∙ picked_in (λ u. meet (d.row SME u) hand) (tasks d) u hu (formed.sme u v e).0 (meet_in (d.row SME u) hand v e f)
 
     -- What is found in order p among them is what the rules ask of the order.
-    pub sme_found : (p : ℕ) {held : ℕ} {v : Found} → held ≡ bit_and (held_by d p c) excluded
+    pub sme_found : (p : ℕ) {held : ℕ} {v : Option (ℕ × ℕ)} → held ≡ bit_and (held_by d p c) excluded
         → v ≡ found_pair (between (d.row SME) held hand) → v ≡ found_pair (holds SME d c hand p)
     sme_found p = held_found SME p excluded enough
 
@@ -69,13 +71,13 @@ module _ (d : Book) (s : Sized d) (c hand : ℕ) (hc : c < 64) where
         zero_none u z (enough u v hu x.0 x.1))))))
 
   -- In order p the search gave v.
-  module _ (p : ℕ) {v : Found} (found : v ≡ found_pair (holds SME d c hand p)) where
+  module _ (p : ℕ) {v : Option (ℕ × ℕ)} (found : v ≡ found_pair (holds SME d c hand p)) where
     -- No pair: the order is none of those that 33 looks for.
-    pub none_here : v ≡ Nothing → excluded_in d c hand p ≡ false
+    pub none_here : v ≡ None → excluded_in d c hand p ≡ false
     none_here e = and_fails_r (is_open d p) _ (sym (found_some _ found) ∙ ap is_pair e)
 
     -- A pair: it is one, and it is open, since c holds a task in it.
-    module _ {x y : ℕ} (pair : v ≡ Pair x y) where
+    module _ {x y : ℕ} (pair : v ≡ Some (x, y)) where
       some : some_pair (holds SME d c hand p) ≡ true
       some = sym (found_some _ found) ∙ ap is_pair pair
 
@@ -101,30 +103,30 @@ module _ (d : Book) (s : Sized d) (c hand : ℕ) (hc : c < 64) where
           ∙ ap (λ (q : ℕ). given (ltb q 64) (say_pair 33 (holds SME d c hand q) q) accepted) at
 
   -- 34, in order b alone, of all that c holds there.
-  module _ (b : ℕ) {held : ℕ} {v : Found} (is_held : held ≡ bit_and (held_by d b c) (2 ^ 64 - 1 - 0))
+  module _ (b : ℕ) {held : ℕ} {v : Option (ℕ × ℕ)} (is_held : held ≡ bit_and (held_by d b c) (2 ^ 64 - 1 - 0))
       (found : v ≡ found_pair (between (d.row DME) held hand)) where
     whole : v ≡ found_pair (holds DME d c hand b)
     whole = held_found DME b (2 ^ 64 - 1 - 0) (λ u v hu e f. in_full u hu) is_held found
 
-    pub dme_told : {x y : ℕ} → v ≡ Pair x y → say_xyz 34 x y b ≡ given_pair_in 34 (holds DME d c hand b) b accepted
+    pub dme_told : {x y : ℕ} → v ≡ Some (x, y) → say_xyz 34 x y b ≡ given_pair_in 34 (holds DME d c hand b) b accepted
     dme_told e = sym (given_pair_lem _ 34 b accepted whole e)
 
-    pub dme_silent : v ≡ Nothing → accepted ≡ given_pair_in 34 (holds DME d c hand b) b accepted
+    pub dme_silent : v ≡ None → accepted ≡ given_pair_in 34 (holds DME d c hand b) b accepted
     dme_silent e = sym (given_nothing _ 34 b accepted whole e)
 
--- Both in their order: 33 is asked first, and s is its answer.
-module _ (d : Book) (a b c : ℕ) {hand : ℕ} (is_hand : hand ≡ subject_hand d a b) {s : Said}
-    (asked : s ≡ given_lowest_pair 33 (is_open d) (holds SME d c hand) accepted) where
-  first : s ≡ given_lowest_pair 33 (is_open d) (holds SME d c (subject_hand d a b)) accepted
-  first = asked ∙ ap (λ (m : ℕ). given_lowest_pair 33 (is_open d) (holds SME d c m) accepted) is_hand
+-- Both in their order: 33 is asked first.
+module _ (d : Book) (a b c : ℕ) {hand : ℕ} (is_hand : hand ≡ subject_hand d a b) where
+  first : {s : Said} → s ≡ given_lowest_pair 33 (is_open d) (holds SME d c hand) accepted
+      → s ≡ given_lowest_pair 33 (is_open d) (holds SME d c (subject_hand d a b)) accepted
+  first asked = asked ∙ ap (λ (m : ℕ). given_lowest_pair 33 (is_open d) (holds SME d c m) accepted) is_hand
 
   -- It stands ..
-  pub sme_stands : is_accepted s ≡ false → s ≡ first_of (held_conflicts c) d a b
+  pub sme_stands : (r : Refusal) → refused r ≡ given_lowest_pair 33 (is_open d) (holds SME d c hand) accepted → refused r ≡ first_of (held_conflicts c) d a b
   unfolding first_of held_conflicts held_sme given_lowest_pair
-  sme_stands e = first ∙ given_stands _ 33 _ _ (sym (ap is_accepted first) ∙ e)
+  sme_stands r asked = given_stands _ 33 _ _ r (first asked)
 
   -- .. or it is silent, and 34 is asked.
-  pub dme_next : is_accepted s ≡ true → {out : Said} → out ≡ given_pair_in 34 (holds DME d c hand b) b accepted → out ≡ first_of (held_conflicts c) d a b
+  pub dme_next : accepted ≡ given_lowest_pair 33 (is_open d) (holds SME d c hand) accepted → {out : Said}
+      → out ≡ given_pair_in 34 (holds DME d c hand b) b accepted → out ≡ first_of (held_conflicts c) d a b
   unfolding first_of held_conflicts held_sme held_dme given_lowest_pair
-  dme_next e p =
-      p ∙ ap (λ (m : ℕ). given_pair_in 34 (holds DME d c m b) b accepted) is_hand ∙ given_gives_way _ 33 _ _ (sym (ap is_accepted first) ∙ e)
+  dme_next asked p = given_gives_way _ 33 _ _ (first asked) (p ∙ ap (λ (m : ℕ). given_pair_in 34 (holds DME d c m b) b accepted) is_hand)

@@ -1,20 +1,15 @@
 -- How a line is gathered, byte by byte, on a text with room for so many.
-use Rattle.std.specs.Prelude.{◌≡◌, Bool, true, false, ◌&&◌, ◌||◌, List, [], ◌∷◌, ◌++◌, ℕ, ◌≤◌, ltb, eqb, length, take}
+use Rattle.std.specs.Prelude.{◌≡◌, Bool, true, false, ◌&&◌, ◌||◌, List, [], ◌∷◌, ◌++◌, ℕ, ◌≤◌, ltb, eqb, length, take, Result, IsErr}
+use Rattle.input.specs.declared.Input.TheVariants.{Open, Failed}
 use Rattle.input.specs.declared.Reading.{Reading}
 
 -- before the first line: nothing is read, nothing held, nothing failed
 abbrev pub unread : Reading
-unread = record { at = 0; end = 0; held = 0; whole = true; going = false; more = true; over = false; failed = false }
+unread = record { at = 0; end = 0; held = 0; whole = true; input = Open }
 
 -- where reading has failed there is no line
-abbrev pub NoLine : Reading → Type 0
-NoLine r = r.failed ≡ true → r.more ≡ false
-
--- the reading goes along the piece, with so much of the line
-pub record Along (held : ℕ) (whole : Bool) (o : Reading) : Type 0 where
-  pub holds : o.held ≡ held
-  pub keeps : o.whole ≡ whole
-  pub reads : o.failed ≡ false
+abbrev pub NoLine : {A E : Type 0} → Reading → Result A E → Type 0
+NoLine o read = o.input ≡ Failed → IsErr read
 
 -- the byte b belongs on the text: it does not end the line, and there is room
 unfoldable pub kept : ℕ → List ℕ → ℕ → Bool
@@ -31,6 +26,6 @@ whole_with room held b whole = whole && (eqb b 10 || kept room held b)
 -- the text was `before` and is `after` the byte b was taken, and the reading was r and is o
 pub record Taken (before after : List ℕ) (r o : Reading) (b : ℕ) : Type 0 where
   pub fits : o.held ≤ length after
-  pub read : NoLine o
+  pub read : o.input ≡ r.input
   pub bytes : take o.held after ≡ held_with (length before) (take r.held before) b
   pub still : o.whole ≡ whole_with (length before) (take r.held before) b r.whole

@@ -2,155 +2,172 @@
 //
 // The caller lends two arrays: `piece` for the bytes read and not yet looked at, `text` for the line. A line that is
 // longer than `text` is cut there, and told as not whole; its other bytes are passed over. Where reading fails there is no
-// line any more, not even the part that came before: it is told as failed, and the caller stops.
+// line any more, not even the part that came before: that is an error, and the caller stops.
 #![tactic(auto)]
 
-ghost use Rattle.std.specs.Prelude.{◌≡◌, ◌≤◌, length};
-ghost use Rattle.input.specs.Lines.{unread, NoLine, Along, Taken};
+ghost use Rattle.std.specs.Prelude.{◌≡◌, ◌≤◌, length, take, IfOk, IfSome};
+ghost use Rattle.input.specs.Lines.{unread, NoLine, Taken};
+ghost use Rattle.input.specs.declared.Line.{Line};
 
 use std::io::Read;
 
+// What the input has come to. Once it is over nothing is read any more, though a terminal could go on.
+#[derive(Clone, Copy)]
+enum Input {
+    Open,
+    Over,
+    Failed,
+}
+
+// A line, and whether that is all of it.
+#[derive(Clone, Copy)]
+pub struct Line<'l> {
+    pub text: &'l [u8],
+    pub whole: bool,
+}
+
+// The input can't be read.
+#[derive(Clone, Copy)]
+pub struct Unreadable;
+
 // Where the reading stands.
 #[derive(Clone, Copy)]
-pub struct Reading {
+struct Reading {
     // What is still to be looked at of the piece: from `at` to before `end`.
     at: usize,
     end: usize,
-    // How many bytes of the line stand in `text`, and whether that is all of it.
-    pub held: usize,
-    pub whole: bool,
-    // Whether the line goes on.
-    going: bool,
-    // Whether there is a line: false at the end of the input.
-    pub more: bool,
-    // Whether the input has ended: nothing is read after that, though a terminal could go on.
-    over: bool,
-    // Whether it ended because it could not be read.
-    pub failed: bool,
+    // How many bytes of the line stand in the text, and whether that is all of it.
+    held: usize,
+    whole: bool,
+    input: Input,
 }
 
-// Before the first line.
-pub fn start() -> Reading
-    ensures { result ≡ unread }
-{
-    Reading {
-        at: 0,
-        end: 0,
-        held: 0,
-        whole: true,
-        going: false,
-        more: true,
-        over: false,
-        failed: false,
-    }
+// The lines of an input, on the arrays that the caller lends.
+#[derive(Drop)]
+pub struct Lines<'a> {
+    piece: &'a mut [u8],
+    text: &'a mut [u8],
+    reading: Reading,
+    ghost ahead: { (reading.at ≤ reading.end) × (reading.end ≤ length piece.now) },
+    ghost within: { reading.held ≤ length text.now },
 }
 
-// The same place in the piece, with a line that starts, unless the input is over.
-fn opened(r: Reading) -> Reading
-    ensures { (result.held ≤ 0) × NoLine result }
-{
-    let failed = r.failed;
-    let over = r.over | failed;
-    Reading {
-        at: r.at,
-        end: r.end,
-        held: 0,
-        whole: true,
-        going: !over,
-        more: !over,
-        over,
-        failed,
-    }
-}
-
-// A reading that goes along the piece, with so much of the line.
-fn along(at: usize, end: usize, held: usize, whole: bool, going: bool) -> Reading
-    ensures { Along held whole result }
-{
-    Reading {
-        at,
-        end,
-        held,
-        whole,
-        going,
-        more: true,
-        over: false,
-        failed: false,
-    }
-}
-
-// Takes the byte before `next` to the line.
-fn take(text: &mut [u8], r: Reading, next: usize, byte: u8) -> Reading
-    requires { r.held ≤ length text.old }
-    ensures { Taken text.old text.new r result byte }
-{
-    let held = r.held;
-    if byte == b'\n' {
-        return along(next, r.end, held, r.whole, false);
-    }
-    if held < text.len() {
-        text[held] = byte;
-        return along(next, r.end, held + 1, r.whole, true);
-    }
-    along(next, r.end, held, false, true)
-}
-
-// Reads the next piece. Where nothing comes any more, what is held is the last line, if anything is; where reading fails
-// there is none.
-fn refill(source: &mut impl Read, piece: &mut [u8], r: Reading) -> Reading
-    ensures { (result.held ≤ r.held) × NoLine result }
-{
-    let held = r.held;
-    let whole = r.whole;
-    let (end, failed) = match source.read(piece) {
-        Ok(got) => (got, false),
-        Err(_) => (0, true),
-    };
-    if end == 0 {
-        return Reading {
+impl<'a> Lines<'a> {
+    // Before the first line.
+    pub fn on(piece: &'a mut [u8], text: &'a mut [u8]) -> Lines<'a>
+        ensures first { result.reading ≡ unread }
+        ensures room { length result.text.now ≡ length text.old }
+    {
+        let reading = Reading {
             at: 0,
             end: 0,
-            held,
-            whole,
-            going: false,
-            more: !failed & (0 < held),
-            over: true,
-            failed,
+            held: 0,
+            whole: true,
+            input: Input::Open,
         };
+        Lines {
+            piece,
+            text,
+            reading,
+        }
     }
-    Reading {
-        at: 0,
-        end,
-        held,
-        whole,
-        going: true,
-        more: true,
-        over: false,
-        failed: false,
-    }
-}
 
-// One byte further, or one piece.
-fn step(source: &mut impl Read, piece: &mut [u8], text: &mut [u8], r: Reading) -> Reading
-    requires { r.held ≤ length text.old }
-    ensures { (result.held ≤ length text.new) × NoLine result }
-{
-    let at = r.at;
-    if at < r.end && at < piece.len() {
-        return take(text, r, at + 1, piece[at]);
+    // Reads the next piece, unless the input is over.
+    fn refill(&mut self, source: &mut impl Read)
+        ensures held { self.new.reading.held ≡ self.old.reading.held }
+        ensures room { length self.new.text.now ≡ length self.old.text.now }
+    {
+        if let Input::Open = self.reading.input {
+            let (end, input) = match source.read(self.piece) {
+                Ok(0) => (0, Input::Over),
+                Ok(got) => (got, Input::Open),
+                Err(_) => (0, Input::Failed),
+            };
+            self.reading = Reading {
+                at: 0,
+                end,
+                input,
+                ..self.reading
+            };
+        }
     }
-    refill(source, piece, r)
-}
 
-// The next line: the first `held` bytes of text.
-pub fn next(source: &mut impl Read, piece: &mut [u8], text: &mut [u8], from: Reading) -> Reading
-    ensures { (result.held ≤ length text.new) × NoLine result }
-{
-    let mut r = opened(from);
-    let mut turns: u64 = 18446744073709551615;
-    while turns > 0 && r.going {
-        r = step(source, piece, text, r);
-        turns -= 1;
+    // The next byte of the input; none at its end.
+    fn byte(&mut self, source: &mut impl Read) -> Result<Option<u8>, Unreadable>
+        ensures held { self.new.reading.held ≡ self.old.reading.held }
+        ensures room { length self.new.text.now ≡ length self.old.text.now }
+        ensures no_line { NoLine self.new.reading result }
+    {
+        if self.reading.at == self.reading.end {
+            self.refill(source);
+        }
+        if let Input::Failed = self.reading.input {
+            return Err(Unreadable);
+        }
+        if self.reading.at == self.reading.end {
+            return Ok(None);
+        }
+        let byte = self.piece[self.reading.at];
+        self.reading.at += 1;
+        Ok(Some(byte))
     }
-    r
+
+    // Takes a byte to the line.
+    #[tactic(auto, unfolding(crate::specs::Lines::kept, crate::specs::Lines::held_with, crate::specs::Lines::whole_with))]
+    fn take(&mut self, byte: u8)
+        ensures taken { Taken self.old.text.now self.new.text.now self.old.reading self.new.reading byte }
+        ensures room { length self.new.text.now ≡ length self.old.text.now }
+    {
+        if byte == b'\n' {
+            return;
+        }
+        if self.reading.held < self.text.len() {
+            self.text[self.reading.held] = byte;
+            self.reading.held += 1;
+        } else {
+            self.reading.whole = false;
+        }
+    }
+
+    // Gathers the next line, if there is one. Where nothing comes any more, what is held is the last line, if anything is.
+    fn gather(&mut self, source: &mut impl Read) -> Result<bool, Unreadable>
+        ensures no_line { NoLine self.new.reading result }
+        ensures room { length self.new.text.now ≡ length self.old.text.now }
+    {
+        self.reading.held = 0;
+        self.reading.whole = true;
+        for _ in 0..u64::MAX {
+            let Some(byte) = self.byte(source)? else {
+                return Ok(self.reading.held != 0);
+            };
+            self.take(byte);
+            if byte == b'\n' {
+                break;
+            }
+        }
+        Ok(true)
+    }
+
+    // The line as it was gathered.
+    fn line(&self) -> Line<'_>
+        ensures text { result.text.now ≡ take self.now.reading.held self.now.text.now }
+        ensures whole { result.whole ≡ self.now.reading.whole }
+    {
+        Line {
+            text: &self.text[..self.reading.held],
+            whole: self.reading.whole,
+        }
+    }
+
+    // The next line, if there is one: no longer than the text that was lent. While it is lent on in the line, nothing can be said of the text
+    // afterwards; that it keeps its length `gather` says, and nothing else is done to it.
+    pub fn next(&mut self, source: &mut impl Read) -> Result<Option<Line<'_>>, Unreadable>
+        ensures { IfOk result (λ found. IfSome found (λ (line : Line). length line.text.now ≤ length self.old.text.now)) }
+    {
+        if self.gather(source)? {
+            Ok(Some(self.line()))
+        } else {
+            Ok(None)
+        }
+    }
 }

@@ -1,17 +1,15 @@
 -- A table in which one row was written: that row is the word, and every other is what it was.
-use mathlib.Core.Path.{◌≡◌, refl, sym, ap, ap₂, ◌∙◌}
-use mathlib.Core.Bool.{Bool, true, false, ◌&&◌}
+use mathlib.Core.Path.{◌≡◌, sym, ap, ap₂, ◌∙◌}
+use mathlib.Core.Bool.{true}
 use mathlib.Core.List.{List, ◌++◌}
-use Prim.Native.Nat.{ℕ, zero, suc, ◌+◌, ◌-◌, ◌≤◌, ◌<◌}
+use Prim.Native.Nat.{ℕ, ◌+◌, ◌-◌, ◌≤◌, ◌<◌}
 use native.Mathlib.Omega.{arith}
-use lib.Dec.{leb, eqb}
 use lib.ListN.{length, take, drop, get_or, length-append, get_or-append}
 use lib.Seq.{length-take-le, get_or-append-add, get_or-take, get_or-drop}
 use borrow.Author.Tests.{eq-eqb}
-use Rattle.sets.specs.Search.{all}
 use Rattle.sets.proofs.SearchLaws.{all_in}
 use Rattle.text.specs.Rows.{letter_at, filled, same_letters, is_row}
-use Rattle.text.proofs.RowLaws.{letter_filled, length_filled, row_fits}
+use Rattle.text.proofs.RowLaws.{letter_filled, length_filled, row_fits, rows_same}
 use Rattle.labels.specs.Names.{with_row}
 
 module _ (names : List ℕ) (at : ℕ) (word : List ℕ) (room : at + 24 ≤ length names) (fits : length word ≤ 24) where
@@ -58,28 +56,14 @@ module _ (names : List ℕ) (at : ℕ) (word : List ℕ) (room : at + 24 ≤ len
   unfolding same_letters
   row_written = sym (row_fits _ _ _ _ fits) ∙ all_in 24 _ (λ i h. eq-eqb _ _ (letter_row i h))
 
--- Two tests that agree below n pass together.
-all_same : (n : ℕ) (f g : ℕ → Bool) → ((i : ℕ) → i < n → f i ≡ g i) → all n f ≡ all n g
-unfolding all
-all_same zero f g same = refl
-all_same (suc n) f g same =
-    ap₂ (λ (s t : Bool). elim s as (λ (x : Bool). Bool) [ true ↦ t | false ↦ false ]) (all_same n f g (λ i h. same i (omega arith))) (same n (omega arith))
-
--- Where the letters of a row are the same in two tables, so is what the row is.
-rows_same : (l r : List ℕ) (start width : ℕ) (word : List ℕ) → ((i : ℕ) → i < width → letter_at l (start + i) ≡ letter_at r (start + i))
-    → is_row l start width word ≡ is_row r start width word
-unfolding is_row same_letters
-rows_same l r start width word same =
-    ap (λ (t : Bool). leb (length word) width && t) (all_same width _ _ (λ i h. ap (λ (x : ℕ). eqb x (letter_at word i)) (same i h)))
-
 module _ (names : List ℕ) (at : ℕ) (word : List ℕ) (room : at + 24 ≤ length names) (fits : length word ≤ 24) (start : ℕ) (other : List ℕ) where
   -- A row before it is what it was ..
   pub row_before : start + 24 ≤ at → is_row (with_row names at word) start 24 other ≡ is_row names start 24 other
-  row_before h = rows_same _ _ start 24 other (λ i l. letter_before names at word room fits (start + i) (omega arith))
+  row_before h = rows_same _ _ start start 24 other (λ i l. letter_before names at word room fits (start + i) (omega arith))
 
   -- .. and so is a row behind it.
   pub row_behind : at + 24 ≤ start → is_row (with_row names at word) start 24 other ≡ is_row names start 24 other
-  row_behind h = rows_same _ _ start 24 other (λ i l. moved i)
+  row_behind h = rows_same _ _ start start 24 other (λ i l. moved i)
     where
       moved : (i : ℕ) → letter_at (with_row names at word) (start + i) ≡ letter_at names (start + i)
       moved i =

@@ -1,6 +1,8 @@
 -- Names of tasks (sort 0), roles (1), persons (2) and orders (3), in one table of bytes: 64 rows of 24 bytes for each sort.
 -- Every definition here computes.
 use Rattle.std.specs.Prelude.{Bool, true, false, ◌&&◌, ◌||◌, not, List, ◌++◌, ℕ, ◌+◌, ◌*◌, ltb, leb, eqb, length, take, drop}
+use Rattle.labels.specs.declared.Sort.{Sort}
+use Rattle.labels.specs.declared.Sort.TheVariants.{Task, Role, Person, Order, Unused, Any, Mask}
 use Rattle.sets.specs.Search.{lowest_from, all}
 use Rattle.decimal.specs.Decimal.{is_digit}
 use Rattle.text.specs.Rows.{letter_at, filled, find_row}
@@ -20,6 +22,16 @@ has_name_bytes word = all (length word) (λ i. is_name_byte (letter_at word i))
 -- the word is a name: 1 to 24 bytes that may stand in one, of which the first is no digit
 unfoldable pub is_name : List ℕ → Bool
 is_name word = not (eqb (length word) 0) && leb (length word) 24 && not (is_digit (letter_at word 0)) && has_name_bytes word
+
+-- the number of a sort: what of the first four has names
+abbrev pub sort_number : Sort → ℕ
+sort_number Task = 0
+sort_number Role = 1
+sort_number Person = 2
+sort_number Order = 3
+sort_number Unused = 4
+sort_number Any = 5
+sort_number Mask = 6
 
 -- where the row of thing n of the sort begins
 abbrev pub row_at : ℕ → ℕ → ℕ
@@ -48,3 +60,7 @@ name_letter names sort n i = elim (ltb sort 4 && ltb n 64 && ltb i 24) [ true �
 -- how long the name is: as many letters as stand before the first blank
 unfoldable pub name_length : List ℕ → ℕ → ℕ → ℕ
 name_length names sort n = lowest_from 24 0 (λ i. eqb (name_letter names sort n i) 32)
+
+-- the name: what stands from the row's first byte on, as long as the name is
+unfoldable pub name_bytes : List ℕ → ℕ → ℕ → List ℕ
+name_bytes names sort n = take (name_length names sort n) (drop (row_at sort n) names)

@@ -1,26 +1,30 @@
 -- Kind 13's refusals, each from what the code has read when it answers; and what an accepted allocation knows and does.
 use mathlib.Core.Path.{◌≡◌, refl, sym, ap, ◌∙◌}
+use mathlib.Core.Logic.{◌⊎◌, inl, inr}
 use mathlib.Core.Bool.{Bool, true, false, ◌&&◌, not}
-use Prim.Native.Nat.{ℕ, ◌-◌, ◌≤◌, ◌<◌}
-use native.Mathlib.Omega.{arith}
+use Prim.Native.Nat.{ℕ, ◌-◌}
 use lib.Dec.{eqb}
-use borrow.Author.Tests.{eqb-false, eq-eqb, ne_eqb, not-true, not-false}
+use borrow.Author.Tests.{eq-eqb, ne_eqb, not-false}
 use Rattle.sets.specs.Mask.{bit}
-use Rattle.sets.specs.Search.{lowest}
-use Rattle.sets.proofs.Logic.{and_out}
+use Rattle.std.specs.Prelude.{Some, None}
+use Rattle.sets.specs.Members.{IsLowest}
+use Rattle.sets.proofs.Logic.{and_in, and_fails_l, and_fails_r}
 use Rattle.rules.specs.Book.{Book, active, orders, role_in, subject_in}
 use Rattle.rules.specs.Trade.{role, owned_tasks}
 use Rattle.rules.specs.Requests.{allocate, role_hand, subject_hand, stamped, change}
-use Rattle.rules.specs.Numbers.{Said, accepted, say, say_x, outside, active_owned, state_refusal, is_accepted}
+use Rattle.rules.specs.Numbers.{Said, accepted, say, say_x, outside, active_owned, state_refusal}
 use Rattle.rules.specs.Numbers.{task_refusal, other_role, role_refusal, cell_refusal, allocate_refusal}
 use Rattle.rules.proofs.NumberLaws.{given_out, or_else_out}
-use Rattle.rules.proofs.SaidLaws.{accepted_out}
 use Rattle.deeds.specs.Outcome.{decide}
 use Rattle.deeds.proofs.CascadeLaws.{given_yes, given_no, lowest_yes, lowest_no}
 
--- A role other than e's is some role.
-pub some_role : (had e : ℕ) → (not (eqb had 0) && not (eqb had e)) ≡ true → 0 < had
-some_role had e h = let n = eqb-false had 0 (not-true (eqb had 0) (and_out _ _ h).0) in omega arith
+-- Whether the role that stands there is another one than e's, by what the two tests of it said.
+pub is_other : {had e : ℕ} → (had ≡ 0 → ⊥) → (had ≡ e → ⊥) → (not (eqb had 0) && not (eqb had e)) ≡ true
+is_other {had} {e} some two = and_in (ap not (ne_eqb had 0 some)) (ap not (ne_eqb had e two))
+
+pub no_other : {had e : ℕ} → (((had ≡ 0 → ⊥) × (had ≡ e)) ⊎ (had ≡ 0)) → (not (eqb had 0) && not (eqb had e)) ≡ false
+no_other {had} {e} (inl same) = and_fails_r (not (eqb had 0)) _ (ap not (eq-eqb had e same.1))
+no_other {had} {e} (inr none) = and_fails_l _ (not (eqb had e)) (ap not (eq-eqb had 0 none))
 
 -- 9 to 11, with the hand and the role that were read from the cell; e is the executing role, plus 1.
 module _ (d : Book) (a b e : ℕ) {hand : ℕ} (is_hand : hand ≡ subject_in (d.cell b a)) where
@@ -45,18 +49,21 @@ module _ (d : Book) (a b e : ℕ) {hand : ℕ} (is_hand : hand ≡ subject_in (d
     pub has_role_lem : Other ≡ true → say_x 10 (had - 1) ≡ cell_refusal d a b e
     has_role_lem h = role_asked (ap (λ (x : ℕ). say_x 10 (x - 1)) is_role ∙ given_yes _ _ _ (other h))
 
-    module _ (same : Other ≡ false) {t : ℕ} (found : t ≡ lowest (outside (role_hand d a b) (owned_tasks d (role (e - 1))))) where
+    module _ (same : Other ≡ false) where
+      abbrev unowned : ℕ → Bool
+      unowned = outside (role_hand d a b) (owned_tasks d (role (e - 1)))
+
       -- the cell has no other role: on with 11
       tasks_asked : {out : Said} → out ≡ task_refusal d a b e → out ≡ cell_refusal d a b e
       tasks_asked p = role_asked (given_no _ _ _ (other same) p)
 
       -- 11: the role doesn't own task t.
-      pub task_unowned : t < 64 → say_x 11 t ≡ cell_refusal d a b e
-      task_unowned h = tasks_asked (lowest_yes 11 _ accepted found h)
+      pub task_unowned : {t : ℕ} → IsLowest unowned (Some t) → say_x 11 t ≡ cell_refusal d a b e
+      task_unowned found = tasks_asked (lowest_yes 11 unowned accepted found)
 
       -- It owns them all.
-      pub all_owned : 64 ≤ t → accepted ≡ cell_refusal d a b e
-      all_owned h = tasks_asked (lowest_no 11 _ accepted found h refl)
+      pub all_owned : IsLowest unowned None → accepted ≡ cell_refusal d a b e
+      all_owned found = tasks_asked (lowest_no 11 unowned accepted found refl)
 
 -- 4 and 8, with what was read of the order and the subject.
 module _ (d : Book) (a b c : ℕ) {member : Bool} (is_member : member ≡ bit (d.row orders b) a) where
@@ -78,10 +85,10 @@ module _ (d : Book) (a b c : ℕ) {member : Bool} (is_member : member ≡ bit (d
         given_no _ _ _ (ap not (sym is_member) ∙ is_in_order) (given_no _ _ _ (ap not (sym is_own) ∙ h) (p ∙ ap (cell_refusal d a b) word))
 
 -- Where an allocation is accepted, the subject owns its active role ..
-pub allocated_owned : (d : Book) (a b c : ℕ) {s : Said} → s ≡ decide d allocate a b c → is_accepted s ≡ true → active_owned d c ≡ true
+pub allocated_owned : (d : Book) (a b c : ℕ) → accepted ≡ decide d allocate a b c → active_owned d c ≡ true
 unfolding decide state_refusal allocate_refusal
-allocated_owned d a b c {s} told e =
-    let refusal = (or_else_out (allocate_refusal d a b c) _ (sym told ∙ accepted_out s e)).0 in
+allocated_owned d a b c told =
+    let refusal = (or_else_out (allocate_refusal d a b c) _ (sym told)).0 in
     let order = given_out _ 4 _ _ refusal in
     not-false (active_owned d c) (given_out _ 8 _ _ order.1).0
 

@@ -1,110 +1,156 @@
 // Text for standard output, gathered on a lent array, the paper, and written when that is full or when it is asked for.
-//
-// The paper is ROOM bytes, all 0 at first. Its first four bytes are its own: how much is used (two of them), whether what is put on it
-// stands inside a JSON string, and whether a write has failed.
 #![tactic(auto)]
 
-ghost use Rattle.std.specs.Prelude.{◌≤◌, ◌<◌, length};
+ghost use Rattle.std.specs.Prelude.{◌≡◌, ◌≤◌, false, length};
 
 use std::io::{ErrorKind, Print};
 
-// How large a paper is.
-pub const ROOM: usize = 4096;
+// How many bytes a program lends to its paper.
+pub const ROOM: usize = 4092;
 
 // The descriptor of standard output.
 const OUTPUT: i32 = 1;
 
-// Where the text begins.
-const START: usize = 4;
-
-const QUOTED: usize = 2;
-
-const FAILED: usize = 3;
-
-// Whether a byte of the paper's own is set.
-fn is_set(paper: &[u8], place: usize) -> bool {
-    place < paper.len() && paper[place] == 1
+// What was gathered stands in the first bytes of the room that was lent.
+#[derive(Drop)]
+pub struct Paper<'a> {
+    room: &'a mut [u8],
+    used: usize,
+    // Whether what is put on it stands inside a JSON string.
+    quoted: bool,
+    // Whether a write has failed.
+    failed: bool,
+    ghost within: { used ≤ length room.now },
 }
 
-fn set(paper: &mut [u8], place: usize, to: u8) {
-    if place < paper.len() {
-        paper[place] = to;
+impl<'a> Paper<'a> {
+    // A blank paper, on any room.
+    pub fn on(room: &'a mut [u8]) -> Paper<'a>
+        ensures blank { (result.used ≡ 0) × (result.quoted ≡ false) × (result.failed ≡ false) }
+    {
+        Paper {
+            room,
+            used: 0,
+            quoted: false,
+            failed: false,
+        }
     }
-}
 
-fn wide(byte: u8) -> usize
-    ensures { result < 256 }
-{
-    byte as usize
-}
-
-// Where the text that was gathered ends; on a blank paper, where it begins.
-fn end(paper: &[u8]) -> usize
-    ensures { (4 ≤ result) × (result < 65536) }
-{
-    if paper.len() < START {
-        return START;
+    // Whether a write has failed.
+    pub fn has_failed(&self) -> bool {
+        self.failed
     }
-    let used = wide(paper[0]) + 256 * wide(paper[1]);
-    if used < START { START } else { used }
-}
 
-fn set_end(paper: &mut [u8], to: usize) {
-    set(paper, 0, (to % 256) as u8);
-    set(paper, 1, (to / 256 % 256) as u8);
-}
-
-// Whether a write has failed.
-pub fn has_failed(paper: &[u8]) -> bool {
-    is_set(paper, FAILED)
-}
-
-// Whether a write has failed since the reader of the output has closed it: one more write then fails for that reason.
-pub fn is_closed(paper: &[u8], system: &impl Print) -> bool {
-    if !has_failed(paper) {
-        return false;
+    // Whether a write has failed since the reader of the output has closed it: one more write then fails for that reason.
+    pub fn is_closed(&self, system: &impl Print) -> bool {
+        if !self.failed {
+            return false;
+        }
+        match system.write_some(b"\n") {
+            Ok(_) => false,
+            Err(error) => error.kind() == ErrorKind::BrokenPipe,
+        }
     }
-    match system.write_some(b"\n") {
-        Ok(_) => false,
-        Err(error) => error.kind() == ErrorKind::BrokenPipe,
-    }
-}
 
-// Writes the text up to `to`. After a write that failed nothing is written any more.
-fn write_to(paper: &mut [u8], to: usize) {
-    if START <= to && to <= paper.len() && !has_failed(paper) {
-        if !io::write_all(OUTPUT, &paper[START..to]) {
-            set(paper, FAILED, 1);
+    // Writes what was gathered. After a write that failed nothing is written any more.
+    pub fn flush(&mut self)
+        ensures { self.new.quoted ≡ self.old.quoted }
+    {
+        if !self.failed && !io::write_all(OUTPUT, &self.room[..self.used]) {
+            self.failed = true;
+        }
+        self.used = 0;
+    }
+
+    // One byte more, as it is.
+    fn put(&mut self, byte: u8)
+        ensures { self.new.quoted ≡ self.old.quoted }
+    {
+        if self.used == self.room.len() {
+            self.flush();
+        }
+        if self.used < self.room.len() {
+            self.room[self.used] = byte;
+            self.used += 1;
+        }
+    }
+
+    // From here on what is put on the paper stands inside a JSON string, or no longer does.
+    pub fn quoted(&mut self, on: bool)
+        ensures { self.new.quoted ≡ on }
+    {
+        self.quoted = on;
+    }
+
+    // A byte inside a JSON string: what JSON would take otherwise, and what is no letter of ASCII, is written by its number.
+    fn escaped(&mut self, byte: u8)
+        ensures { self.new.quoted ≡ self.old.quoted }
+    {
+        match byte {
+            b'"' | b'\\' => {
+                self.put(b'\\');
+                self.put(byte);
+            }
+            32..=126 => self.put(byte),
+            _ => {
+                for b in b"\\u00" {
+                    self.put(*b);
+                }
+                self.put(hex_digit(byte / 16));
+                self.put(hex_digit(byte));
+            }
+        }
+    }
+
+    // One byte more.
+    pub fn byte(&mut self, byte: u8)
+        ensures { self.new.quoted ≡ self.old.quoted }
+    {
+        if self.quoted {
+            self.escaped(byte);
+        } else {
+            self.put(byte);
+        }
+    }
+
+    // More bytes.
+    pub fn bytes(&mut self, text: &[u8])
+        ensures { self.new.quoted ≡ self.old.quoted }
+    {
+        for b in text {
+            self.byte(*b);
+        }
+    }
+
+    // More text.
+    pub fn text(&mut self, text: &str)
+        ensures { self.new.quoted ≡ self.old.quoted }
+    {
+        self.bytes(text.as_bytes());
+    }
+
+    // A number in decimal.
+    pub fn number(&mut self, n: u64)
+        ensures { self.new.quoted ≡ self.old.quoted }
+    {
+        let mut digits = [0u8; 20];
+        let count = io::decimal(n, &mut digits);
+        self.bytes(&digits[..count]);
+    }
+
+    // Text n of several, counted from 0; nothing where there are not so many.
+    pub fn nth(&mut self, texts: &[&str], n: u64)
+        ensures { self.new.quoted ≡ self.old.quoted }
+    {
+        if let Ok(i) = usize::try_from(n) {
+            if let Some(text) = texts.get(i) {
+                self.text(text);
+            }
         }
     }
 }
 
-// Writes what was gathered.
-pub fn flush(paper: &mut [u8]) {
-    let to = end(paper);
-    write_to(paper, to);
-    set_end(paper, START);
-}
-
-fn make_room(paper: &mut [u8]) {
-    if paper.len() <= end(paper) {
-        flush(paper);
-    }
-}
-
-// One byte more, as it is.
-fn put(paper: &mut [u8], byte: u8) {
-    make_room(paper);
-    let at = end(paper);
-    set(paper, at, byte);
-    set_end(paper, at + 1);
-}
-
-// From here on what is put on the paper stands inside a JSON string, or no longer does.
-pub fn quoted(paper: &mut [u8], on: bool) {
-    set(paper, QUOTED, if on { 1 } else { 0 });
-}
-
+// A digit to base 16.
 fn hex_digit(n: u8) -> u8 {
     let low = n % 16;
     if low < 10 {
@@ -112,104 +158,4 @@ fn hex_digit(n: u8) -> u8 {
     } else {
         b'a' + (low - 10)
     }
-}
-
-// A byte inside a JSON string: what JSON would take otherwise, and what is no letter of ASCII, is written by its number.
-fn escaped(paper: &mut [u8], byte: u8) {
-    match byte {
-        b'"' | b'\\' => {
-            put(paper, b'\\');
-            put(paper, byte);
-        }
-        32..=126 => put(paper, byte),
-        _ => {
-            put(paper, b'\\');
-            put(paper, b'u');
-            put(paper, b'0');
-            put(paper, b'0');
-            put(paper, hex_digit(byte / 16));
-            put(paper, hex_digit(byte));
-        }
-    }
-}
-
-// One byte more.
-pub fn byte(paper: &mut [u8], byte: u8) {
-    if is_set(paper, QUOTED) {
-        escaped(paper, byte);
-    } else {
-        put(paper, byte);
-    }
-}
-
-// More bytes.
-pub fn bytes(paper: &mut [u8], text: &[u8]) {
-    let mut i: usize = 0;
-    while i < text.len() {
-        byte(paper, text[i]);
-        i += 1;
-    }
-}
-
-// A number in decimal.
-pub fn number(paper: &mut [u8], n: u64) {
-    let mut digits = [0u8; 20];
-    let count = io::decimal(n, &mut digits);
-    bytes(paper, &digits[..count]);
-}
-
-// What parts several texts in one: `|one|two`.
-const BAR: u8 = b'|';
-
-// Where the next bar stands from `from` on; the end of the texts where there is none.
-fn bar(texts: &[u8], from: usize) -> usize
-    requires { from ≤ length texts.now }
-    ensures { (from ≤ result) × (result ≤ length texts.now) }
-{
-    let mut i = from;
-    while i < texts.len() {
-        if texts[i] == BAR {
-            return i;
-        }
-        i += 1;
-    }
-    i
-}
-
-// The place behind the next bar.
-fn behind(texts: &[u8], from: usize) -> usize
-    requires { from ≤ length texts.now }
-    ensures { (from ≤ result) × (result ≤ length texts.now) }
-{
-    let at = bar(texts, from);
-    if at < texts.len() { at + 1 } else { at }
-}
-
-// Where one of several texts begins, and where it ends.
-#[derive(Drop)]
-pub struct Span {
-    pub start: usize,
-    pub end: usize,
-}
-
-// Text n of several, the one behind n bars; an empty one where there are not so many.
-pub fn part(texts: &[u8], n: u64) -> Span
-    ensures { (result.start ≤ result.end) × (result.end ≤ length texts.now) }
-{
-    let mut start: usize = 0;
-    for _ in 0..n {
-        start = behind(texts, start);
-    }
-    Span {
-        start,
-        end: bar(texts, start),
-    }
-}
-
-// Writes text n of several.
-pub fn nth(paper: &mut [u8], texts: &[u8], n: u64) {
-    let part = part(texts, n);
-    let start = part.start;
-    let end = part.end;
-    bytes(paper, &texts[start..end]);
 }

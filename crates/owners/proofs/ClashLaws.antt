@@ -2,6 +2,7 @@
 -- is its own.
 use mathlib.Core.Path.{◌≡◌, refl, sym, ap, ◌∙◌, subst}
 use mathlib.Core.Bool.{Bool, true, false, not}
+use Rattle.std.proofs.Common.{Option, Some, None}
 use Prim.Native.Nat.{ℕ, ◌<◌}
 use native.Mathlib.Omega.{arith}
 use lib.Dec.{ltb, eqb}
@@ -14,20 +15,18 @@ use Rattle.rules.specs.Book.{Book, SME}
 use Rattle.rules.specs.Trade.{Owner, owned_tasks}
 use Rattle.rules.specs.Numbers.{Said, say_xy, given, has_some, given_set, clashing, clashes}
 use Rattle.owners.specs.Owners.{clash_of, found_clash, told_clash}
-use Rattle.owners.specs.declared.Clash.{Clash}
-use Rattle.owners.specs.declared.Clash.TheVariants.{Owned, Nothing}
 
 module _ (f : ℕ → ℕ) where
   -- The clash is o, the lowest whose set is not empty, and its set.
-  pub clash_at : (o m : ℕ) → o < 64 → o ≡ lowest (has_some f) → m ≡ f o → Owned o m ≡ found_clash f
+  pub clash_at : (o m : ℕ) → o < 64 → o ≡ lowest (has_some f) → m ≡ f o → Some (o, m) ≡ found_clash f
   unfolding found_clash clash_of
   clash_at o m h e p =
-      ap (Owned o) p
-      ∙ sym (ap (λ (t : Bool). elim t as (λ (z : Bool). Clash) [ true ↦ Owned o (f o) | false ↦ Nothing ]) (lt-ltb o 64 h))
+      ap (λ (x : ℕ). Some (o, x)) p
+      ∙ sym (ap (λ (t : Bool). elim t as (λ (z : Bool). Option (ℕ × ℕ)) [ true ↦ Some (o, f o) | false ↦ None ]) (lt-ltb o 64 h))
       ∙ ap (clash_of f) e
 
   -- There is none where all sets are empty.
-  pub none_at : 64 ≡ lowest (has_some f) → Nothing ≡ found_clash f
+  pub none_at : 64 ≡ lowest (has_some f) → None ≡ found_clash f
   unfolding found_clash clash_of
   none_at e = ap (clash_of f) e
 
@@ -36,14 +35,14 @@ module _ (f : ℕ → ℕ) where
   unfolding found_clash clash_of given_set given
   clash_said n rest = go (lowest (has_some f)) (ltb (lowest (has_some f)) 64)
     where
-      go : (o : ℕ) (t : Bool) → told_clash n (elim t [ true ↦ Owned o (f o) | false ↦ Nothing ]) rest
+      go : (o : ℕ) (t : Bool) → told_clash n (elim t [ true ↦ Some (o, f o) | false ↦ None ]) rest
           ≡ (elim t as (λ (z : Bool). Said) [ true ↦ say_xy n o (f o) | false ↦ rest ])
       go o true = refl
       go o false = refl
 
   -- For a caller of a search that gave v: the number is given with what v is, or the rest is asked.
-  pub clash_given : (n : ℕ) (rest : Said) {v w : Clash} → v ≡ found_clash f → v ≡ w → given_set n f rest ≡ told_clash n w rest
-  clash_given n rest e p = sym (clash_said n rest) ∙ ap (λ (w : Clash). told_clash n w rest) (sym e ∙ p)
+  pub clash_given : (n : ℕ) (rest : Said) {v w : Option (ℕ × ℕ)} → v ≡ found_clash f → v ≡ w → given_set n f rest ≡ told_clash n w rest
+  clash_given n rest e p = sym (clash_said n rest) ∙ ap (λ (w : Option (ℕ × ℕ)). told_clash n w rest) (sym e ∙ p)
 
 -- Owner b alone is asked; y is what clashes of what it owns.
 module _ (d : Book) (start : Owner) (b gain y : ℕ) (is_clash : y ≡ clashing (d.row SME) gain (owned_tasks d (start b))) where
@@ -68,7 +67,7 @@ module _ (d : Book) (start : Owner) (b gain y : ℕ) (is_clash : y ≡ clashing 
       go false p = absurd (not_both (has_some asked o) e (others o p))
 
   -- It has a clash: that is found.
-  pub own_clash : b < 64 → (y ≡ 0 → ⊥) → Owned b y ≡ found_clash (clashes d start (eqb b) gain)
+  pub own_clash : b < 64 → (y ≡ 0 → ⊥) → Some (b, y) ≡ found_clash (clashes d start (eqb b) gain)
   unfolding asked
   own_clash hb some =
       let has : has_some asked b ≡ true = ap (λ (m : ℕ). not (eqb m 0)) (sym own) ∙ ap not (ne_eqb y 0 some) in
@@ -76,7 +75,7 @@ module _ (d : Book) (start : Owner) (b gain y : ℕ) (is_clash : y ≡ clashing 
       clash_at asked b y hb (only_own (lowest (has_some asked)) (lowest_passes 64 0 (has_some asked) found)) own
 
   -- It has none: nobody has.
-  pub no_own_clash : y ≡ 0 → Nothing ≡ found_clash (clashes d start (eqb b) gain)
+  pub no_own_clash : y ≡ 0 → None ≡ found_clash (clashes d start (eqb b) gain)
   unfolding asked
   no_own_clash none = none_at asked (lowest_end 64 (has_some asked) (λ o l. go o (eqb b o) refl))
     where

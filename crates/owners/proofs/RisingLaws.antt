@@ -2,15 +2,16 @@
 -- So what document 01 asks of each owner is asked once, from the role or the tasks, and the owners are read off.
 use mathlib.Core.Path.{◌≡◌, sym, ap, ap₂, ◌∙◌, subst}
 use mathlib.Core.Bool.{Bool, true, ◌&&◌}
-use Prim.Native.Nat.{ℕ, ◌^◌, ◌≤◌, ◌<◌}
-use native.Mathlib.Omega.{arith}
+use Rattle.std.proofs.Common.{Option, None}
+use Prim.Native.Nat.{ℕ, ◌^◌, ◌<◌}
 use lib.Bits.{bit_and, and_lt}
 use lib.Pow.{pow-lt}
 use Rattle.sets.specs.Mask.{bit, meet, picked}
 use Rattle.sets.specs.Search.{lowest}
+use Rattle.sets.specs.Members.{IsLowest}
 use Rattle.sets.proofs.Logic.{and_out, refute}
 use Rattle.sets.proofs.MaskLaws.{bit-and, bit_ext, in_one, one_out, zero_none, only_lt, only_yes, picked_lt}
-use Rattle.sets.proofs.SearchLaws.{lowest_same, lowest_most, lowest_end}
+use Rattle.sets.proofs.SearchLaws.{lowest_same, lowest_end}
 use Rattle.chains.specs.Relation.{In, Step, Chain, stay, more}
 use Rattle.chains.proofs.RelationLaws.{chain_join}
 use Rattle.chains.proofs.ClosureLaws.{close_lt, close_chain, from_close}
@@ -24,7 +25,6 @@ use Rattle.owners.specs.Owners.{start_of, clashes_below, found_clash}
 use Rattle.owners.specs.Rising.{seniors, above, owners_of, starters, all_clashing, starts_in_both}
 use Rattle.owners.specs.declared.Owner.{Owner}
 use Rattle.owners.specs.declared.Owner.TheVariants.{Role, Subject}
-use Rattle.owners.specs.declared.Clash.TheVariants.{Nothing}
 use Rattle.owners.proofs.ClashLaws.{none_at}
 
 module _ (d : Book) (s : Sized d) where
@@ -119,10 +119,10 @@ module _ (d : Book) (s : Sized d) (f : Formed d) where
           (itself _))
 
   -- So they are found: from each task alone its owners, and who starts with one of each.
-  pub both_found : (owner : Owner) (a b : ℕ) → a < 64 → b < 64 → {one two xs ys o : ℕ} → one ≡ 2 ^ a → two ≡ 2 ^ b → xs ≡ owners_of d one → ys ≡ owners_of d two
-      → o ≡ lowest (starts_in_both d owner xs ys) → o ≡ lowest (owns_both d (start_of d owner) a b)
-  both_found owner a b ha hb p q e f r =
-      r ∙ ap₂ (λ (x y : ℕ). lowest (starts_in_both d owner x y)) (e ∙ ap (owners_of d) p) (f ∙ ap (owners_of d) q) ∙ both_owned owner a b ha hb
+  pub both_found : (owner : Owner) (a b : ℕ) → a < 64 → b < 64 → {one two xs ys : ℕ} (found : Option ℕ) → one ≡ 2 ^ a → two ≡ 2 ^ b → xs ≡ owners_of d one
+      → ys ≡ owners_of d two → IsLowest (starts_in_both d owner xs ys) found → IsLowest (owns_both d (start_of d owner) a b) found
+  both_found owner a b ha hb found p q e f r =
+      rw (ap₂ (λ (x y : ℕ). lowest (starts_in_both d owner x y)) (e ∙ ap (owners_of d) p) (f ∙ ap (owners_of d) q) ∙ both_owned owner a b ha hb) at r
 
   -- Clashes with what is gained, among the owners of role b.
   module _ (owner : Owner) (b gain : ℕ) (hb : b < 64) (hg : gain < 2 ^ 64) where
@@ -184,25 +184,22 @@ module _ (d : Book) (s : Sized d) (f : Formed d) where
         let own = sym (owns_role_lem owner b o hb l) ∙ (and_out _ _ e).0 in
         owned_clashing o ∙ sym (only_yes _ _ own)
 
-    -- Where nobody starts in both, nobody has a clash: where no task clashes, where no role owns one, and where the search found nobody.
-    none : lowest (starts_in_both d owner (above d (2 ^ b)) (owners_of d (all_clashing d gain))) ≡ 64 → Nothing ≡ found_clash (clashes_below d owner b gain)
-    none e = none_at (clashes_below d owner b gain) (sym e ∙ first_owner)
+    -- Where nobody starts in both, nobody has a clash: where no task clashes, where no role owns one, and where the search finds nobody.
+    pub no_owner : lowest (starts_in_both d owner (above d (2 ^ b)) (owners_of d (all_clashing d gain))) ≡ 64
+        → None ≡ found_clash (clashes_below d owner b gain)
+    no_owner e = none_at (clashes_below d owner b gain) (sym e ∙ first_owner)
 
     holds : (o : ℕ) → starts_in_both d owner (above d (2 ^ b)) (owners_of d (all_clashing d gain)) o ≡ true
         → In (starters d owner (owners_of d (all_clashing d gain))) o
     holds o e = (and_out (bit (starters d owner (above d (2 ^ b))) o) (bit (starters d owner (owners_of d (all_clashing d gain))) o) e).1
 
-    pub no_holders : owners_of d (all_clashing d gain) ≡ 0 → Nothing ≡ found_clash (clashes_below d owner b gain)
+    pub no_holders : owners_of d (all_clashing d gain) ≡ 0 → None ≡ found_clash (clashes_below d owner b gain)
     no_holders z =
-        none (sym (lowest_end 64 _ (λ o l. refute _ (λ e.
+        no_owner (sym (lowest_end 64 _ (λ o l. refute _ (λ e.
         let x = (starters_exactly owner (owners_of d (all_clashing d gain)) (owners_lt d s (all_clashing d gain)) o).means (holds o e) in
         zero_none x.0 z x.2))))
 
-    pub no_clashing : all_clashing d gain ≡ 0 → Nothing ≡ found_clash (clashes_below d owner b gain)
+    pub no_clashing : all_clashing d gain ≡ 0 → None ≡ found_clash (clashes_below d owner b gain)
     no_clashing z =
-        none (sym (lowest_end 64 _ (λ o l. refute _ (λ e.
+        no_owner (sym (lowest_end 64 _ (λ o l. refute _ (λ e.
         let x = (owns_one owner (all_clashing d gain) o clashing_lt l).means (holds o e) in zero_none x.0 z x.2))))
-
-    pub no_owner : 64 ≤ lowest (starts_in_both d owner (above d (2 ^ b)) (owners_of d (all_clashing d gain)))
-        → Nothing ≡ found_clash (clashes_below d owner b gain)
-    no_owner h = none (omega (arith, lowest_most 64 0 (starts_in_both d owner (above d (2 ^ b)) (owners_of d (all_clashing d gain)))))

@@ -5,74 +5,69 @@
 mod back;
 
 ghost use Rattle.std.specs.Prelude.{◌≡◌, ◌<◌};
-ghost use Rattle.rules.specs.Book.{table_count};
 ghost use Rattle.rules.specs.Requests.{relate};
 ghost use Rattle.rules.specs.Numbers.{open_refusal, state_refusal, pair_conflicts, first_of};
-ghost use Rattle.book.specs.Slice.{tables, Full, WellFormed};
+ghost use Rattle.book.specs.Tables.{number};
+ghost use Rattle.book.specs.Slice.{tables, WellFormed};
 ghost use Rattle.answers.specs.Answers.{said};
 ghost use Rattle.deeds.specs.Outcome.{decide, Settled};
 
-use answers::Answer;
+use answers::{Answer, Refusal};
 pub use back::unrelate;
+use book::Table;
 
 // 7 while an order is open.
-fn open_refusal(book: &[u64]) -> Answer
-    requires { Full book.now }
+fn open_refusal(book: &book::Words) -> Answer
     ensures { said result ≡ open_refusal (tables book.now) }
 {
-    let order = search::lowest_open(book);
-    if order < 64 {
-        return Answer::OrderOpen(order);
+    match search::lowest_open(book) {
+        Some(order) => Err(Refusal::OrderOpen(order)),
+        None => Ok(()),
     }
-    Answer::Accepted
 }
 
 // 5 where the pair is set already, 7 while an order is open.
-fn pair_refusal(book: &[u64], table: u64, a: u64, b: u64) -> Answer
-    requires { Full book.now × (table < table_count) × (a < 64) × (b < 64) }
-    ensures { said result ≡ state_refusal (tables book.now) (relate table) a b 0 }
+fn pair_refusal(book: &book::Words, table: Table, a: u64, b: u64) -> Answer
+    requires { (a < 64) × (b < 64) }
+    ensures { said result ≡ state_refusal (tables book.now) (relate (number table)) a b 0 }
 {
     if book::is_in_row(book, table, a, b) {
-        return Answer::AlreadySet;
+        return Err(Refusal::AlreadySet);
     }
     open_refusal(book)
 }
 
 // What conflicts with the new pair, by the table. A table that has no pairs is refused.
-fn pair_conflict(book: &[u64], table: u64, a: u64, b: u64) -> Answer
+// Stays: a match on the table, as document 01 lists conflicts by kind; the kinds' tests as closures would be the same four lines elsewhere.
+fn pair_conflict(book: &book::Words, table: Table, a: u64, b: u64) -> Answer
     requires { WellFormed book.now × (a < 64) × (b < 64) }
-    ensures { said result ≡ first_of (pair_conflicts table) (tables book.now) a b }
+    ensures { said result ≡ first_of (pair_conflicts (number table)) (tables book.now) a b }
 {
     match table {
-        book::SME => exclusions::sme_conflict(book, a, b),
-        book::DME => exclusions::dme_conflict(book, a, b),
-        book::RB => bindings::rb_conflict(book, a, b),
-        book::SB => bindings::sb_conflict(book, a, b),
-        _ => Answer::UnknownKind,
+        Table::Sme => exclusions::sme_conflict(book, a, b),
+        Table::Dme => exclusions::dme_conflict(book, a, b),
+        Table::Rb => bindings::rb_conflict(book, a, b),
+        Table::Sb => bindings::sb_conflict(book, a, b),
+        _ => Err(Refusal::UnknownKind),
     }
 }
 
 // The answer, on the book as it stands.
-fn judge_pair(book: &[u64], table: u64, a: u64, b: u64) -> Answer
-    requires { WellFormed book.now × (table < table_count) × (a < 64) × (b < 64) }
-    ensures { said result ≡ decide (tables book.now) (relate table) a b 0 }
+fn judge_pair(book: &book::Words, table: Table, a: u64, b: u64) -> Answer
+    requires { WellFormed book.now × (a < 64) × (b < 64) }
+    ensures { said result ≡ decide (tables book.now) (relate (number table)) a b 0 }
 {
-    let refusal = pair_refusal(book, table, a, b);
-    if !answers::is_accepted(refusal) {
-        return refusal;
-    }
+    pair_refusal(book, table, a, b)?;
     pair_conflict(book, table, a, b)
 }
 
 // Kinds 4 to 7: both bits of the pair, where nothing stands in the way.
-pub fn relate(book: &mut [u64], table: u64, a: u64, b: u64) -> Answer
-    requires { WellFormed book.old × (table < table_count) × (a < 64) × (b < 64) }
-    ensures { Settled book.old book.new (relate table) a b 0 result }
+pub fn relate(book: &mut book::Words, table: Table, a: u64, b: u64) -> Answer
+    requires { WellFormed book.old × (a < 64) × (b < 64) }
+    ensures { Settled book.old book.new (relate (number table)) a b 0 result }
 {
-    let answer = judge_pair(book, table, a, b);
-    if answers::is_accepted(answer) {
-        book::add_to_row(book, table, a, b);
-        book::add_to_row(book, table, b, a);
-    }
-    answer
+    judge_pair(book, table, a, b)?;
+    book::add_to_row(book, table, a, b);
+    book::add_to_row(book, table, b, a);
+    Ok(())
 }

@@ -6,6 +6,7 @@ use Prim.Native.Nat.{ℕ, zero, suc, ◌-◌, ◌<◌, min}
 use native.Mathlib.Omega.{arith}
 use native.Mathlib.Nat.{eq-or-lt_of_le, zero-min, min-zero, suc-min-suc}
 use lib.ListN.{length, take, drop, length-drop}
+use Rattle.labels.specs.declared.Sort.{Sort}
 use Rattle.typed.specs.Words.{part}
 use Rattle.typed.specs.declared.Line.{Line}
 use Rattle.typed.specs.declared.Line.TheVariants.{Blank, Ask, Try, Name, Show, ShowOne, Audit, Help, HelpOn, Quit, Fault}
@@ -47,7 +48,8 @@ module _ (text : List ℕ) (start end from to : ℕ) (last : to ≡ min end (len
           rw (none) (take_same 0 (end - start) (drop start text) (rw (size) (left_none start end (length text) short)))
 
 -- A line that is no `name` gives none.
-pub names_kept : (names text : List ℕ) (line : Line) → ((sort n start end : ℕ) → line ≡ Name sort n start end → ⊥) → names ≡ names_after names text line
+pub names_kept : (names text : List ℕ) (line : Line) → ((sort : Sort) (n start end : ℕ) → line ≡ Name sort n start end → ⊥)
+    → names ≡ names_after names text line
 names_kept names text (Name sort n start end) other = absurd (other sort n start end refl)
 names_kept names text Blank other = refl
 names_kept names text (Ask q) other = refl

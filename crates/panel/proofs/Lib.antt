@@ -1,3 +1,3 @@
-pub mod CopyLaws
+pub mod ActLaws
 pub mod EachSuits
 pub mod GivenLaws

@@ -2,24 +2,31 @@
 use Rattle.std.specs.Prelude.{◌≡◌, Bool, true, ◌&&◌, ℕ, ◌+◌, ◌-◌, eqb, ltb, length}
 use Rattle.sets.specs.Search.{all}
 use Rattle.rules.specs.Requests.{Needs, unused, in_range, a_task, a_role, a_subject, an_open_order, a_task_mask, table, row_of}
-use Rattle.typed.specs.Arguments as typed
+use Rattle.labels.specs.declared.Sort.{Sort}
+use Rattle.labels.specs.declared.Sort.TheVariants.{Task, Role, Person, Order, Unused, Mask}
+use Rattle.labels.specs.Names.{sort_number}
+use Rattle.typed.specs.Arguments.{wanted}
+
+-- the two sorts are one
+unfoldable pub same_sort : Sort → Sort → Bool
+same_sort sort other = eqb (sort_number sort) (sort_number other)
 
 -- a sort of argument suits what the table asks; where it asks for any number in range, for a thing that need not be there yet
-unfoldable pub suits : Needs → ℕ → Bool
-suits unused sort = eqb sort typed.unused
-suits in_range sort = ltb sort typed.unused
-suits a_task sort = eqb sort typed.task
-suits a_role sort = eqb sort typed.role
-suits a_subject sort = eqb sort typed.person
-suits an_open_order sort = eqb sort typed.order
-suits a_task_mask sort = eqb sort typed.mask
+unfoldable pub suits : Needs → Sort → Bool
+suits unused sort = same_sort sort Unused
+suits in_range sort = ltb (sort_number sort) (sort_number Unused)
+suits a_task sort = same_sort sort Task
+suits a_role sort = same_sort sort Role
+suits a_subject sort = same_sort sort Person
+suits an_open_order sort = same_sort sort Order
+suits a_task_mask sort = same_sort sort Mask
 
 -- all three arguments of a kind suit
 unfoldable pub kind_suits : ℕ → Bool
 kind_suits kind =
-    suits (row_of kind).a (typed.wanted kind).0
-    && suits (row_of kind).b (typed.wanted kind).1
-    && suits (row_of kind).c (typed.wanted kind).2
+    suits (row_of kind).a (wanted kind).0
+    && suits (row_of kind).b (wanted kind).1
+    && suits (row_of kind).c (wanted kind).2
 
 -- how many kinds there are: the rows of the table, but for row 0, which is no kind
 unfoldable pub kind_count : ℕ

@@ -13,14 +13,18 @@
 
 mod acting;
 
-ghost use Rattle.std.specs.Prelude.{◌≤◌, length};
-
-use acting::Acted;
+use acting::Obeyed;
+use called::Pen;
+use input::{Lines, Unreadable};
+use output::Paper;
 use spoken::How;
 use std::env::Env;
 use std::io::{IsTerminal, Read};
 use std::process::ExitCode;
 use typed::Line;
+
+// What the first line may begin with: a byte order mark.
+const MARK: [u8; 3] = [0xef, 0xbb, 0xbf];
 
 // What the panel was asked for, and whether somebody sits before it.
 #[derive(Clone, Copy)]
@@ -30,364 +34,162 @@ struct Options {
     terminal: bool,
 }
 
-// How a shift goes on after a line: whether a request was refused so far or a line was none, and whether the shift is over.
+impl Options {
+    // What the words behind the program's name ask for.
+    fn asked_for(system: &impl Env, terminal: bool) -> Options {
+        Options {
+            json: command::has_option(system, b"--json"),
+            strict: command::has_option(system, b"--strict"),
+            terminal,
+        }
+    }
+}
+
+// A shift: the paper that it is told on, the names and the book that its lines change, and room for a copy of the book.
 #[derive(Drop)]
-struct Went {
-    wrong: bool,
-    over: bool,
-}
-
-// Where a shift stands: what was read last, and how it went so far.
-#[derive(Clone, Copy)]
-struct State {
-    reading: input::Reading,
-    wrong: bool,
-    over: bool,
-}
-
-fn say_answer(
-    paper: &mut [u8],
-    names: &[u8],
-    book: &[u64],
-    number: u64,
-    request: typed::Request,
-    acted: Acted,
-    how: How,
-) {
-    if let Acted::Answered(answer) = acted {
-        spoken::answer(paper, names, book, number, request, answer, how);
-    }
-}
-
-fn show(paper: &mut [u8], names: &[u8], book: &[u64], number: u64, how: How) {
-    spoken::begin(paper, number, b",\"show\":\"", b"the book\n", how);
-    shown::book(paper, names, book);
-    spoken::close(paper, how);
-}
-
-fn show_one(
-    paper: &mut [u8],
-    names: &[u8],
-    book: &[u64],
-    number: u64,
-    sort: u64,
-    n: u64,
-    how: How,
-) {
-    spoken::begin(paper, number, b",\"show\":\"", b"", how);
-    shown::thing(paper, names, book, sort, n);
-    spoken::close(paper, how);
-}
-
-// Tells what came of a line that asked for nothing of the book.
-fn say_other(
-    paper: &mut [u8],
-    names: &[u8],
-    book: &[u64],
-    text: &[u8],
-    number: u64,
-    line: Line,
-    how: How,
-) {
-    match line {
-        Line::Name(sort, n, _, _) => spoken::named(paper, names, number, sort, n, how),
-        Line::Show => show(paper, names, book, number, how),
-        Line::ShowOne(sort, n) => show_one(paper, names, book, number, sort, n, how),
-        Line::Audit => spoken::finding(paper, number, audit::audit(book), how),
-        Line::Help => spoken::help(paper, number, how),
-        Line::HelpOn(row) => spoken::help_on(paper, number, row, how),
-        Line::Fault(reason, start) => spoken::fault(paper, names, number, text, reason, start, how),
-        _ => {}
-    }
-}
-
-// Tells what came of a line.
-fn say(
-    paper: &mut [u8],
-    names: &[u8],
-    book: &[u64],
-    text: &[u8],
-    number: u64,
-    line: Line,
-    acted: Acted,
-    json: bool,
-) {
-    match line {
-        Line::Ask(r) => say_answer(
-            paper,
-            names,
-            book,
-            number,
-            r,
-            acted,
-            How { json, trial: false },
-        ),
-        Line::Try(r) => say_answer(
-            paper,
-            names,
-            book,
-            number,
-            r,
-            acted,
-            How { json, trial: true },
-        ),
-        _ => say_other(
-            paper,
-            names,
-            book,
-            text,
-            number,
-            line,
-            How { json, trial: false },
-        ),
-    }
-}
-
-fn is_refused(acted: Acted) -> bool {
-    match acted {
-        Acted::Answered(answer) => !answers::is_accepted(answer),
-        Acted::Nothing => false,
-    }
-}
-
-// How the shift goes on after a line.
-fn judge(line: Line, acted: Acted, wrong: bool) -> Went {
-    match line {
-        Line::Ask(_) => Went {
-            wrong: wrong | is_refused(acted),
-            over: false,
-        },
-        Line::Fault(_, _) => Went {
-            wrong: true,
-            over: false,
-        },
-        Line::Quit => Went { wrong, over: true },
-        _ => Went { wrong, over: false },
-    }
-}
-
-// Does what a line says, and tells what came of it.
-fn serve(
-    paper: &mut [u8],
-    names: &mut [u8],
-    book: &mut [u64],
-    trial: &mut [u64],
-    text: &[u8],
-    whole: bool,
-    number: u64,
-    json: bool,
-    wrong: bool,
-) -> Went {
-    let obeyed = acting::obey(book, trial, text, whole, names);
-    let line = obeyed.line;
-    let acted = obeyed.acted;
-    acting::keep_name(names, text, line);
-    say(paper, names, book, text, number, line, acted, json);
-    output::flush(paper);
-    judge(line, acted, wrong)
-}
-
-// Whether the text begins with a byte order mark.
-fn has_mark(text: &[u8]) -> bool {
-    (text::letter(text, 0) == 0xef)
-        & (text::letter(text, 1) == 0xbb)
-        & (text::letter(text, 2) == 0xbf)
-}
-
-// Where a line begins: the first one behind a byte order mark.
-fn start_of(text: &[u8], number: u64) -> usize
-    ensures { result ≤ length text.now }
-{
-    if text.len() < 3 {
-        return 0;
-    }
-    if (number == 1) & has_mark(text) {
-        return 3;
-    }
-    0
-}
-
-// Serves a line as it was read.
-fn serve_line(
-    paper: &mut [u8],
-    names: &mut [u8],
-    book: &mut [u64],
-    trial: &mut [u64],
-    text: &[u8],
-    whole: bool,
-    number: u64,
-    json: bool,
-    wrong: bool,
-) -> Went {
-    let start = start_of(text, number);
-    serve(
-        paper,
-        names,
-        book,
-        trial,
-        &text[start..],
-        whole,
-        number,
-        json,
-        wrong,
-    )
-}
-
-// Asks for a line, where somebody sits there.
-fn prompt(paper: &mut [u8], terminal: bool) {
-    if terminal {
-        output::bytes(paper, b"> ");
-        output::flush(paper);
-    }
-}
-
-fn welcome(paper: &mut [u8], terminal: bool) {
-    if terminal {
-        output::bytes(
-            paper,
-            b"Towerplank 4.0.0: type requests; help lists them, quit or Ctrl-D ends the shift\n",
-        );
-    }
-}
-
-// Asks for the next line and reads it, unless the shift is over.
-fn next_line(
-    source: &mut impl Read,
-    paper: &mut [u8],
-    piece: &mut [u8],
-    text: &mut [u8],
-    r: input::Reading,
-    over: bool,
-    terminal: bool,
-) -> input::Reading
-    requires { r.held ≤ length text.old }
-    ensures { result.held ≤ length text.new }
-{
-    if over {
-        return r;
-    }
-    prompt(paper, terminal);
-    input::next(source, piece, text, r)
-}
-
-// The shift as it begins, with its first line read.
-fn begun(reading: input::Reading) -> State
-    ensures { result.reading.held ≤ reading.held }
-{
-    State {
-        reading,
-        wrong: false,
-        over: false,
-    }
-}
-
-// Whether the shift goes on.
-fn is_on(paper: &[u8], state: State) -> bool {
-    let r = state.reading;
-    r.more & !state.over & !output::has_failed(paper)
-}
-
-// Serves the line that was read, and reads the next one.
-fn turn(
-    source: &mut impl Read,
-    paper: &mut [u8],
-    names: &mut [u8],
-    book: &mut [u64],
-    trial: &mut [u64],
-    piece: &mut [u8],
-    text: &mut [u8],
-    state: State,
-    number: u64,
+struct Shift<'a> {
     options: Options,
-) -> State
-    requires { state.reading.held ≤ length text.old }
-    ensures { result.reading.held ≤ length text.new }
-{
-    let r = state.reading;
-    let held = r.held;
-    let went = serve_line(
-        paper,
-        names,
-        book,
-        trial,
-        &text[..held],
-        r.whole,
-        number,
-        options.json,
-        state.wrong,
-    );
-    let reading = next_line(source, paper, piece, text, r, went.over, options.terminal);
-    State {
-        reading,
-        wrong: went.wrong,
-        over: went.over,
-    }
+    paper: Paper<'a>,
+    names: [u8; labels::SIZE],
+    book: book::Words,
+    trial: book::Words,
+    // Whether a request was refused so far, or a line was none.
+    wrong: bool,
 }
 
-// The shift: every line is served, and the next one read. The number of the line bounds the loop.
-fn shift(
-    source: &mut impl Read,
-    paper: &mut [u8],
-    names: &mut [u8],
-    book: &mut [u64],
-    trial: &mut [u64],
-    piece: &mut [u8],
-    text: &mut [u8],
-    options: Options,
-) -> State {
-    prompt(paper, options.terminal);
-    let mut state = begun(input::next(source, piece, text, input::start()));
-    let mut number: u64 = 1;
-    while number < 18446744073709551615 && is_on(paper, state) {
-        state = turn(
-            source, paper, names, book, trial, piece, text, state, number, options,
-        );
-        number += 1;
-    }
-    state
-}
-
-// Ends the line that the prompt began, where the input ended behind it.
-fn end_prompt(paper: &mut [u8], wanted: bool) {
-    if wanted {
-        output::byte(paper, b'\n');
-    }
-}
-
-// Tells the command around the program what went wrong, if it was asked to.
-fn tell_command(strict: bool, wrong: bool, finding: answers::Finding) {
-    if !strict {
-        return;
-    }
-    if wrong | (answers::told_finding(finding).number != 0) {
-        command::end(command::REFUSED);
-    }
-}
-
-// The audit at the end of the shift.
-fn finish(paper: &mut [u8], book: &[u64], wrong: bool, over: bool, options: Options) {
-    let finding = audit::audit(book);
-    end_prompt(paper, options.terminal & !over);
-    spoken::end(
-        paper,
-        finding,
+impl<'a> Shift<'a> {
+    // How what comes of a line is told.
+    fn how(&self, trial: bool) -> How {
         How {
-            json: options.json,
-            trial: false,
-        },
-    );
-    output::flush(paper);
-    if output::has_failed(paper) {
-        return;
+            json: self.options.json,
+            trial,
+        }
     }
-    tell_command(options.strict, wrong, finding);
+
+    // Greets who sits there.
+    fn welcome(&mut self) {
+        if self.options.terminal {
+            self.paper.text(
+                "Towerplank 4.0.0: type requests; help lists them, quit or Ctrl-D ends the shift\n",
+            );
+        }
+    }
+
+    // Asks for a line, where somebody sits there.
+    fn prompt(&mut self) {
+        if self.options.terminal {
+            self.paper.text("> ");
+            self.paper.flush();
+        }
+    }
+
+    // Ends the line that the prompt began, where the input ended behind it.
+    fn end_prompt(&mut self) {
+        if self.options.terminal {
+            self.paper.byte(b'\n');
+        }
+    }
+
+    // Tells what came of a line.
+    fn say(&mut self, number: u64, text: &[u8], obeyed: Obeyed) {
+        let how = self.how(matches!(obeyed.line, Line::Try(_)));
+        let mut pen = Pen {
+            paper: &mut self.paper,
+            names: &self.names,
+        };
+        match obeyed.line {
+            Line::Blank | Line::Quit => {}
+            Line::Ask(q) | Line::Try(q) => {
+                if let Some(answer) = obeyed.acted {
+                    spoken::answer(&mut pen, &self.book, number, q, answer, how);
+                }
+            }
+            Line::Name(sort, n, _, _) => spoken::named(&mut pen, number, sort, n, how),
+            Line::Show => {
+                spoken::begin(pen.paper, number, b",\"show\":\"", b"the book\n", how);
+                shown::book(&mut pen, &self.book);
+                spoken::close(pen.paper, how);
+            }
+            Line::ShowOne(sort, n) => {
+                spoken::begin(pen.paper, number, b",\"show\":\"", b"", how);
+                shown::thing(&mut pen, &self.book, sort, n);
+                spoken::close(pen.paper, how);
+            }
+            Line::Audit => spoken::finding(pen.paper, number, audit::audit(&self.book), how),
+            Line::Help => spoken::help(pen.paper, number, how),
+            Line::HelpOn(row) => spoken::help_on(pen.paper, number, row, how),
+            Line::Fault(reason, start) => spoken::fault(&mut pen, number, text, reason, start, how),
+        }
+    }
+
+    // Does what a line says, and tells what came of it.
+    fn serve(&mut self, number: u64, text: &[u8], whole: bool) -> Line {
+        let obeyed = acting::obey(&mut self.book, &mut self.trial, text, whole, &self.names);
+        acting::keep_name(&mut self.names, text, obeyed.line);
+        self.say(number, text, obeyed);
+        self.paper.flush();
+        self.wrong |= match obeyed.line {
+            Line::Ask(_) => obeyed.acted.is_some_and(|answer| answer.is_err()),
+            Line::Fault(_, _) => true,
+            _ => false,
+        };
+        obeyed.line
+    }
+
+    // Plays the shift: every line is served, until the input ends, a line ends it, or nothing can be written any more.
+    fn play(&mut self, source: &mut impl Read, lines: &mut Lines) -> Result<(), Unreadable> {
+        for number in 1..u64::MAX {
+            self.prompt();
+            let Some(line) = lines.next(source)? else {
+                self.end_prompt();
+                break;
+            };
+            if self.paper.has_failed() {
+                break;
+            }
+            let text = unmarked(line.text, number);
+            if let Line::Quit = self.serve(number, text, line.whole) {
+                break;
+            }
+        }
+        Ok(())
+    }
+
+    // The audit at the end of the shift. The command is told whether anything went wrong, if it was asked to be.
+    fn finish(&mut self) {
+        let finding = audit::audit(&self.book);
+        let how = self.how(false);
+        spoken::end(&mut self.paper, finding, how);
+        self.paper.flush();
+        let told = self.options.strict && !self.paper.has_failed();
+        if told && (self.wrong || finding.is_err()) {
+            command::end(command::REFUSED);
+        }
+    }
+
+    // The end of the shift: the audit, or what failed. Where the reader of the output has closed it, nothing is told.
+    fn conclude(&mut self, system: &impl Print, played: Result<(), Unreadable>) -> ExitCode {
+        if played.is_ok() {
+            self.finish();
+        }
+        if self.paper.is_closed(system) {
+            return ExitCode::from(command::CLOSED);
+        }
+        if played.is_err() {
+            break_off(b"panel: the input can't be read");
+        } else if self.paper.has_failed() {
+            break_off(b"panel: the output can't be written");
+        }
+        ExitCode::SUCCESS
+    }
 }
 
-fn asked_for(system: &impl Env, terminal: bool) -> Options {
-    Options {
-        json: command::has_option(system, b"--json"),
-        strict: command::has_option(system, b"--strict"),
-        terminal,
+// What a line says: of the first one what stands behind a byte order mark.
+fn unmarked(text: &[u8], number: u64) -> &[u8] {
+    if number == 1 {
+        text.strip_prefix(&MARK).unwrap_or(text)
+    } else {
+        text
     }
 }
 
@@ -397,48 +199,22 @@ fn break_off(text: &[u8]) {
     command::end(command::BROKEN);
 }
 
-// The end of the shift: the audit, or what failed. Where the reader of the output has closed it, nothing is told.
-fn conclude(
-    system: &impl Print,
-    paper: &mut [u8],
-    book: &[u64],
-    state: State,
-    options: Options,
-) -> ExitCode {
-    let reading = state.reading;
-    if !reading.failed {
-        finish(paper, book, state.wrong, state.over, options);
-    }
-    if output::is_closed(paper, system) {
-        return ExitCode::from(command::CLOSED);
-    }
-    if reading.failed {
-        break_off(b"panel: the input can't be read");
-    } else if output::has_failed(paper) {
-        break_off(b"panel: the output can't be written");
-    }
-    ExitCode::SUCCESS
-}
-
 fn main(rt: HostRuntime) -> ExitCode {
     let mut source = rt.stdin();
-    let options = asked_for(&rt, source.is_terminal() & rt.stdout().is_terminal());
-    let mut book = [0u64; book::WORDS];
-    let mut trial = [0u64; book::WORDS];
-    let mut names = [b' '; labels::SIZE];
-    let mut paper = [0u8; output::ROOM];
+    let terminal = source.is_terminal() & rt.stdout().is_terminal();
+    let mut room = [0u8; output::ROOM];
     let mut piece = [0u8; 4096];
     let mut text = [0u8; typed::ROOM];
-    welcome(&mut paper, options.terminal);
-    let state = shift(
-        &mut source,
-        &mut paper,
-        &mut names,
-        &mut book,
-        &mut trial,
-        &mut piece,
-        &mut text,
-        options,
-    );
-    conclude(&rt, &mut paper, &book, state, options)
+    let mut shift = Shift {
+        options: Options::asked_for(&rt, terminal),
+        paper: Paper::on(&mut room),
+        names: [b' '; labels::SIZE],
+        book: [0; book::WORDS],
+        trial: [0; book::WORDS],
+        wrong: false,
+    };
+    let mut lines = Lines::on(&mut piece, &mut text);
+    shift.welcome();
+    let played = shift.play(&mut source, &mut lines);
+    shift.conclude(&rt, played)
 }

@@ -1,16 +1,15 @@
--- Laws of the words that are the book: their front, and words that are cleared one by one.
+-- Laws of the words that are the book: their front.
 use mathlib.Core.Path.{◌≡◌, sym, ap, ◌∙◌}
 use mathlib.Core.List.{List, ◌++◌}
-use Prim.Native.Nat.{ℕ, ◌+◌, ◌≤◌, ◌<◌}
+use Prim.Native.Nat.{ℕ, ◌<◌}
 use native.Mathlib.Omega.{arith}
-use native.Mathlib.Decide.{dec_lt, ℕ_discrete}
-use lib.ListN.{length, take, drop, get_or, set, replicate, length-replicate, get_or-replicate, drop_of_length-le}
-use lib.Seq.{length_front, length-take-le, take_all, take_at, drop_at, get_or-set_same, get_or-set_other, ext_get_or}
+use native.Mathlib.Decide.{dec_lt}
+use lib.ListN.{length, take, drop, drop_of_length-le}
+use lib.Seq.{length_front, length-take-le, take_all, take_at, drop_at}
 use Rattle.rules.specs.Requests.{Request}
 use Rattle.rules.specs.Numbers.{answer}
 use Rattle.book.specs.Slice.{words}
-use Rattle.answers.specs.declared.Answer.{Answer}
-use Rattle.answers.specs.Answers.{said}
+use Rattle.answers.specs.Answers.{Answer, said}
 use Rattle.answers.specs.Replies.{reply_of}
 use Rattle.desk.specs.Guarantee.{Stored, Answered}
 use Rattle.replay.specs.Obeyed.{Front, reply_to, Changed}
@@ -57,17 +56,3 @@ module _ (n r : ℕ) (l e : List ℕ) (q : Request) (a : Answer) (f : Front n (l
 
       beyond : drop n (e ++ drop r l) ≡ drop n l
       beyond = sym (front_drop n r _ fits) ∙ drop_at e (drop r l) r long ∙ front_drop n r l f
-
--- One word more is cleared.
-pub clear_more : (l : List ℕ) (i : ℕ) → i < length l → ((j : ℕ) → j < i → get_or l j 0 ≡ 0) → (j : ℕ) → j < i + 1 → get_or (set l i 0) j 0 ≡ 0
-clear_more l i h before j k = go (ℕ_discrete j i)
-  where
-    go : Dec (j ≡ i) → get_or (set l i 0) j 0 ≡ 0
-    go (yes e) = rw (e, get_or-set_same l i 0 0 h)
-    go (no e) = get_or-set_other l i j 0 0 e ∙ before j (omega arith)
-
--- All are cleared.
-pub all_clear : (l : List ℕ) (n i : ℕ) → length l ≡ n → n ≤ i → ((j : ℕ) → j < i → get_or l j 0 ≡ 0) → l ≡ replicate n 0
-all_clear l n i e h zeros =
-    ext_get_or 0 l (replicate n 0) (e ∙ sym (length-replicate n 0))
-    (λ j k. zeros j (omega arith) ∙ sym (get_or-replicate n j 0 0 (omega arith)))

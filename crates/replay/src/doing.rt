@@ -7,6 +7,7 @@ ghost use Rattle.replay.specs.Obeyed.{Front, reply_to, audit_of, Changed, Obeyed
 use answers::Reply;
 use stream::Command;
 
+// Stays: nothing is one of five things that may come of a line; an Option of the other four would have one more match and the same arms.
 // What came of a line.
 #[derive(Clone, Copy)]
 pub enum Outcome {
@@ -24,11 +25,7 @@ pub enum Outcome {
 pub fn clear(words: &mut [u64])
     ensures { words.new ≡ replicate (length words.old) 0 }
 {
-    let mut i: usize = 0;
-    while i < words.len() {
-        words[i] = 0;
-        i += 1;
-    }
+    words.fill(0);
 }
 
 // Makes a word the value; there may be no such word.
@@ -44,7 +41,7 @@ pub fn store(words: &mut [u64], i: usize, value: u64)
 fn part(words: &[u64], n: usize) -> usize
     ensures { Front n (length words.now) result }
 {
-    if n < words.len() { n } else { words.len() }
+    n.min(words.len())
 }
 
 // A request on the first n words.
@@ -53,7 +50,7 @@ fn ask(words: &mut [u64], n: usize, kind: u64, a: u64, b: u64, c: u64) -> Reply
     ensures changed { Changed words.old words.new n (ask kind a b c) }
 {
     let end = part(words, n);
-    answers::told(desk::request(&mut words[..end], kind, a, b, c))
+    Reply::from(desk::request(&mut words[..end], kind, a, b, c))
 }
 
 // The audit of the first n words.
@@ -61,7 +58,7 @@ fn inspect(words: &[u64], n: usize) -> Reply
     ensures { result ≡ audit_of words.now n }
 {
     let end = part(words, n);
-    answers::told_finding(audit::audit(&words[..end]))
+    Reply::from(audit::audit(&words[..end]))
 }
 
 // Does to the words what the line says to a book of n.

@@ -16,6 +16,8 @@ ghost use Rattle.stream.specs.Stream.{command_of};
 ghost use Rattle.replay.specs.Obeyed.{Carried};
 
 use doing::Outcome;
+use input::{Lines, Unreadable};
+use output::Paper;
 use std::io::Read;
 use std::process::ExitCode;
 
@@ -23,7 +25,7 @@ use std::process::ExitCode;
 fn carry_out(
     book: &mut [u64],
     before: &mut [u64],
-    paper: &mut [u8],
+    paper: &mut Paper,
     line: &[u8],
     whole: bool,
     length: usize,
@@ -35,45 +37,48 @@ fn carry_out(
             doing::clear(before);
             return new;
         }
-        Outcome::Put(i, v) => {
-            doing::store(before, i, v);
-        }
+        Outcome::Put(i, v) => doing::store(before, i, v),
         Outcome::Answered(reply) => {
             telling::answer(paper, reply);
             telling::changes(book, before, paper);
-            output::byte(paper, b'\n');
+            paper.byte(b'\n');
         }
         Outcome::Audited(reply) => {
             telling::finding(paper, reply);
-            output::byte(paper, b'\n');
+            paper.byte(b'\n');
         }
         Outcome::Nothing => telling::complain(paper, line),
     }
     length
 }
 
-// Carries out the line that was read, if there is one.
-fn serve(
+// Plays the whole stream, as far as it can be read and told.
+fn play(
+    source: &mut impl Read,
     book: &mut [u64],
     before: &mut [u64],
-    paper: &mut [u8],
-    text: &[u8],
-    r: input::Reading,
-    length: usize,
-) -> usize {
-    let held = r.held;
-    if r.more && held <= text.len() {
-        return carry_out(book, before, paper, &text[..held], r.whole, length);
+    paper: &mut Paper,
+    lines: &mut Lines,
+) -> Result<(), Unreadable> {
+    let mut length = 0;
+    for _ in 0..u64::MAX {
+        if paper.has_failed() {
+            break;
+        }
+        let Some(line) = lines.next(source)? else {
+            break;
+        };
+        length = carry_out(book, before, paper, line.text, line.whole, length);
     }
-    length
+    Ok(())
 }
 
 // Tells how it went, where it did not go well. Where the reader of the output has closed it, nothing is told.
-fn conclude(system: &impl Print, paper: &[u8], unread: bool) -> ExitCode {
-    if output::is_closed(paper, system) {
+fn conclude(system: &impl Print, paper: &Paper, unread: bool) -> ExitCode {
+    if paper.is_closed(system) {
         return ExitCode::from(command::CLOSED);
     }
-    let unwritten = output::has_failed(paper);
+    let unwritten = paper.has_failed();
     if unread {
         command::complain(b"replay: the input can't be read");
     }
@@ -86,41 +91,22 @@ fn conclude(system: &impl Print, paper: &[u8], unread: bool) -> ExitCode {
     ExitCode::SUCCESS
 }
 
-// Plays the whole stream, as far as it can be read and told. It answers whether reading failed.
-fn play(
-    source: &mut impl Read,
-    book: &mut [u64],
-    before: &mut [u64],
-    paper: &mut [u8],
-    piece: &mut [u8],
-    text: &mut [u8],
-) -> bool {
-    let mut length: usize = 0;
-    let mut r = input::start();
-    let mut turns: u64 = 18446744073709551615;
-    while turns > 0 && r.more && !output::has_failed(paper) {
-        r = input::next(source, piece, text, r);
-        length = serve(book, before, paper, text, r, length);
-        turns -= 1;
-    }
-    output::flush(paper);
-    r.failed
-}
-
 fn main(rt: HostRuntime) -> ExitCode {
-    let mut source = rt.stdin();
     let mut book = [0u64; stream::LONGEST];
     let mut before = [0u64; stream::LONGEST];
-    let mut paper = [0u8; output::ROOM];
+    let mut room = [0u8; output::ROOM];
+    let mut paper = Paper::on(&mut room);
     let mut piece = [0u8; 4096];
     let mut text = [0u8; 256];
+    let mut lines = Lines::on(&mut piece, &mut text);
     let unread = play(
-        &mut source,
+        &mut rt.stdin(),
         &mut book,
         &mut before,
         &mut paper,
-        &mut piece,
-        &mut text,
-    );
+        &mut lines,
+    )
+    .is_err();
+    paper.flush();
     conclude(&rt, &paper, unread)
 }

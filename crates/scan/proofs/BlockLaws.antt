@@ -1,6 +1,7 @@
 -- The scan by blocks of 64 words: the lowest bad word of a block, where no word before it is bad, is the lowest of the book.
 use mathlib.Core.Path.{◌≡◌, refl, sym, ap, ap₂, ◌∙◌}
 use mathlib.Core.Bool.{Bool, true, false}
+use mathlib.Core.Logic.{◌⊎◌, inl, inr}
 use Prim.Native.Nat.{ℕ, zero, suc, ◌+◌, ◌-◌, ◌^◌, ◌≤◌, ◌<◌}
 use native.Mathlib.Omega.{arith}
 use native.Mathlib.Decide.{dec_lt}
@@ -9,12 +10,17 @@ use lib.ListN.{get_or}
 use lib.Bits.{bit_or, or_add_and, and_le_l, and_le_r}
 use borrow.Author.Tests.{ne_eqb}
 use Rattle.sets.specs.Mask.{bit, only, joined}
+use Rattle.std.specs.Prelude.{Option, Some, None, MatchOption}
 use Rattle.sets.specs.Search.{lowest_from, lowest}
+use Rattle.sets.specs.Members.{IsLowest}
 use Rattle.sets.proofs.MaskLaws.{in_full, only_yes}
-use Rattle.sets.proofs.SearchLaws.{lowest_passes, lowest_first, lowest_is, lowest_same}
+use Rattle.sets.proofs.SearchLaws.{lowest_passes, lowest_first, lowest_is, lowest_end, lowest_same}
 use Rattle.rules.specs.Book.{Book, book_words, head_words, table_count, tasks, roles, subjects, active}
 use Rattle.rules.specs.Book.{bad_mask, bad_active, RowTest, masks, actives, order_masks, row_tests, bad_row, bad, first_bad}
 use Rattle.rules.proofs.WordLaws.{bad_word, bad_head, bad_row_lem}
+use Rattle.book.specs.declared.Table.{Table}
+use Rattle.book.specs.declared.Table.TheVariants.{Sme, Dme, Rb, Sb}
+use Rattle.book.specs.Tables.{number}
 use Rattle.scan.specs.Blocks.{mask_bad, active_bad, row_bad}
 use Rattle.scan.proofs.BadLaws.{zero_word, some_word}
 
@@ -35,10 +41,11 @@ module _ (f : ℕ → Bool) (i : ℕ) (none : NoneBelow f i) where
           ap f e ∙ lowest_first 64 0 (λ r. f (i + r)) (j - i) (omega arith) (omega arith)
 
   -- and that is what the whole search finds.
-  pub block_at : (n : ℕ) {x : ℕ} → x ≡ lowest (λ r. f (i + r)) → x < 64 → i + x < n → i + x ≡ lowest_from n 0 f
-  block_at n {x} e h l =
-      sym (lowest_is n 0 f (i + x) (omega arith) (omega arith) (ap (λ (r : ℕ). f (i + r)) e ∙ lowest_passes 64 0 (λ r. f (i + r)) (omega arith))
-      (λ j a b. block_on x (omega arith) j b))
+  pub block_at : (n : ℕ) {x : ℕ} → (x < 64) × (lowest (λ r. f (i + r)) ≡ x) → i + x < n → lowest_from n 0 f ≡ i + x
+  block_at n {x} h l =
+      lowest_is n 0 f (i + x) (omega arith) (omega arith)
+      (ap (λ (r : ℕ). f (i + r)) (sym h.1) ∙ lowest_passes 64 0 (λ r. f (i + r)) (omega arith))
+      (λ j a b. block_on x (omega arith) j b)
 
 module _ (d : Book) where
   -- Words 0 to 2 are never bad ..
@@ -50,9 +57,9 @@ module _ (d : Book) where
       go false = refl
 
   -- .. so word 3 is the lowest bad one where it is not 0 ..
-  pub gap_bad : (d.head 3 ≡ 0 → ⊥) → 3 ≡ first_bad d
+  pub gap_bad : (d.head 3 ≡ 0 → ⊥) → first_bad d ≡ 3
   unfolding first_bad
-  gap_bad n = sym (lowest_is book_words 0 (bad d) 3 (omega arith) (omega arith) (bad_head d 3 (omega arith) ∙ some_word true refl n) (λ j a b. head_good j b))
+  gap_bad n = lowest_is book_words 0 (bad d) 3 (omega arith) (omega arith) (bad_head d 3 (omega arith) ∙ some_word true refl n) (λ j a b. head_good j b)
 
   -- .. and where it is, no word of the head is bad.
   pub past_head : d.head 3 ≡ 0 → NoneBelow (bad d) head_words
@@ -66,14 +73,16 @@ module _ (d : Book) where
 abbrev pub row_test : ℕ → RowTest
 row_test n = get_or row_tests n (λ d r v. false)
 
+abbrev test_of : Table → RowTest
+test_of t = row_test (number t)
+
 -- The four pair tables have one test.
-pub pair_test : (n : ℕ) → n < 4 → row_test n ≡ masks tasks tasks
+pub pair_test : (t : Table) → (t ≡ Sme) ⊎ ((t ≡ Dme) ⊎ ((t ≡ Rb) ⊎ (t ≡ Sb))) → row_test (number t) ≡ masks tasks tasks
 unfolding row_tests
-pair_test zero h = refl
-pair_test (suc zero) h = refl
-pair_test (suc (suc zero)) h = refl
-pair_test (suc (suc (suc zero))) h = refl
-pair_test (suc (suc (suc (suc n)))) h = absurd (omega arith)
+pair_test t (inl e) = ap test_of e
+pair_test t (inr (inl e)) = ap test_of e
+pair_test t (inr (inr (inl e))) = ap test_of e
+pair_test t (inr (inr (inr e))) = ap test_of e
 
 -- The bad rows of table n are those that its test finds:
 module _ (d : Book) (n : ℕ) (h : n < table_count) where
@@ -129,3 +138,15 @@ cells_none f (suc n) h e t l = go (dec_lt t n) (λ z q. cells_none f n (omega ar
     go (no q) before =
         let at : t ≡ n = omega arith in
         let none : last ≡ 0 = omega (arith, e, or_add_and some last, and_le_l some last) in ap f at ∙ sym (only_yes _ (f n) (in_full n (omega arith))) ∙ none
+
+-- As the library's search through a range says it: what is found is the lowest that passes.
+pub found_lowest : (f : ℕ → Bool) (o : Option ℕ)
+    → MatchOption o ((k : ℕ) → 0 ≤ k → k < 64 → f k ≡ false) (λ i. (0 ≤ i) × (i < 64) × (f i ≡ true) × ((k : ℕ) → 0 ≤ k → k < i → f k ≡ false))
+    → IsLowest f o
+found_lowest f None h = sym (lowest_end 64 f (λ k l. h k (omega arith) l))
+found_lowest f (Some i) h = (h.1, lowest_is 64 0 f i (omega arith) (omega arith) h.2 h.3)
+
+-- Two tests that agree on 0 to 63 find the same.
+pub found_same : (f g : ℕ → Bool) (o : Option ℕ) → lowest f ≡ lowest g → IsLowest f o → IsLowest g o
+found_same f g None e h = sym e ∙ h
+found_same f g (Some i) e h = (h.0, sym e ∙ h.1)

@@ -1,7 +1,7 @@
 -- Bad words by blocks of 64: the rows of a table, the cells of an order.
-use Rattle.std.specs.Prelude.{Bool, true, false, ◌&&◌, ℕ, ◌+◌, ◌-◌, ◌*◌, ◌^◌, eqb, ltb, leb}
+use Rattle.std.specs.Prelude.{◌≡◌, ◌<◌, Option, MatchOption, Bool, true, false, ◌&&◌, ℕ, ◌+◌, ◌-◌, ◌*◌, ◌^◌, eqb, ltb, leb}
 use Rattle.sets.specs.Mask.{bit, joined}
-use Rattle.rules.specs.Book.{Book, table_at, cells_at, active, role_in, bad_mask, bad_active, bad}
+use Rattle.rules.specs.Book.{Book, book_words, table_at, cells_at, active, role_in, bad_mask, bad_active, bad, first_bad}
 
 -- the word of row r of table n is bad
 abbrev pub row_bad : Book → ℕ → ℕ → Bool
@@ -26,3 +26,7 @@ has_role v = ltb 0 (role_in v) && leb (role_in v) 64
 -- All cells of order p, joined.
 abbrev pub joined_cells : Book → ℕ → ℕ
 joined_cells d p = joined 64 (d.cell p) (2 ^ 64 - 1 - 0)
+
+-- What is found is the lowest bad word of the book; or no word is bad, and nothing is found.
+abbrev pub IsFirstBad : Book → Option ℕ → Type 0
+IsFirstBad d found = MatchOption found (first_bad d ≡ book_words) (λ i. (i < book_words) × (first_bad d ≡ i))

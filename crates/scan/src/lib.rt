@@ -2,22 +2,23 @@
 #![tactic(auto)]
 
 ghost use Rattle.std.specs.Prelude.{◌≡◌, ◌<◌};
-ghost use Rattle.sets.specs.Search.{lowest};
-ghost use Rattle.rules.specs.Book.{table_count, orders, names, bad_active, bad_cell, first_bad};
-ghost use Rattle.book.specs.Slice.{tables, Full};
-ghost use Rattle.scan.specs.Blocks.{has_role, mask_bad, active_bad, row_bad, cell_bad, joined_cells};
+ghost use Rattle.sets.specs.Members.{IsLowest};
+ghost use Rattle.rules.specs.Book.{orders, names, bad_active, bad_cell};
+ghost use Rattle.book.specs.Tables.{number};
+ghost use Rattle.book.specs.Slice.{tables};
+ghost use Rattle.scan.specs.Blocks.{has_role, mask_bad, active_bad, row_bad, cell_bad, joined_cells, IsFirstBad};
+
+use book::Table;
 
 // Whether v is 0, or one more than a number of the set.
 fn is_in(set: u64, v: u64) -> bool
     ensures { result ≡ names set v }
 {
-    if v == 0 {
-        return true;
+    match v {
+        0 => true,
+        1..=64 => sets::has(set, v - 1),
+        _ => false,
     }
-    if v > 64 {
-        return false;
-    }
-    sets::has(set, v - 1)
 }
 
 // Whether an active role is bad: its subject is undefined, or no known role has this number.
@@ -39,10 +40,7 @@ fn has_role(v: u64) -> bool
 fn is_bad_cell(in_order: bool, roles: u64, subjects: u64, v: u64) -> bool
     ensures { result ≡ bad_cell in_order roles subjects v }
 {
-    if !in_order {
-        return true;
-    }
-    if !has_role(v) {
+    if !in_order || !has_role(v) {
         return true;
     }
     if !sets::has((roles << 1) | (roles >> 63), book::role_in(v) % 64) {
@@ -56,129 +54,124 @@ fn is_bad_cell(in_order: bool, roles: u64, subjects: u64, v: u64) -> bool
 }
 
 // Whether row r of a table of masks is bad: of an undefined owner any but 0 is, of a defined one what names something that is not known.
-fn is_bad_mask_at(book: &[u64], table: u64, owners: u64, known: u64, r: u64) -> bool
-    requires { Full book.now × (table < table_count) × (r < 64) }
-    ensures { result ≡ mask_bad (tables book.now) table owners known r }
+fn is_bad_mask_at(book: &book::Words, table: Table, owners: u64, known: u64, r: u64) -> bool
+    requires { r < 64 }
+    ensures { result ≡ mask_bad (tables book.now) (number table) owners known r }
 {
     let v = book::row(book, table, r);
     if sets::has(owners, r) {
-        return sets::meets(v, !known);
+        sets::meets(v, !known)
+    } else {
+        v != 0
     }
-    v != 0
 }
 
-// The lowest bad row of a table of masks; 64 where there is none.
-fn bad_mask_in(book: &[u64], table: u64, owners: u64, known: u64) -> u64
-    requires { Full book.now × (table < table_count) }
-    ensures { result ≡ lowest (mask_bad (tables book.now) table owners known) }
+// The lowest bad row of a table of masks, if it has one.
+fn bad_mask_in(book: &book::Words, table: Table, owners: u64, known: u64) -> Option<u64>
+    ensures { IsLowest (mask_bad (tables book.now) (number table) owners known) result }
 {
-    for r in 0..64 {
-        if is_bad_mask_at(book, table, owners, known, r) {
-            return r;
-        }
-    }
-    64
+    (0..64).find(|r| is_bad_mask_at(book, table, owners, known, *r))
 }
 
-// The lowest bad active role; 64 where there is none.
-fn bad_active_in(book: &[u64], subjects: u64, roles: u64) -> u64
-    requires { Full book.now }
-    ensures { result ≡ lowest (active_bad (tables book.now) subjects roles) }
+// Whether the active role of subject r is bad. A word of 0 is never bad.
+fn is_bad_active_at(book: &book::Words, subjects: u64, roles: u64, r: u64) -> bool
+    requires { r < 64 }
+    ensures { result ≡ active_bad (tables book.now) subjects roles r }
 {
-    for r in 0..64 {
-        let v = book::row(book, book::ACTIVE, r);
-        if v == 0 {
-            continue;
-        }
-        if is_bad_active(sets::has(subjects, r), roles, v) {
-            return r;
-        }
-    }
-    64
+    let v = book::row(book, Table::Active, r);
+    v != 0 && is_bad_active(sets::has(subjects, r), roles, v)
 }
 
-// The lowest bad row of a table; 64 where there is none.
-fn bad_row_in(book: &[u64], table: u64) -> u64
-    requires { Full book.now × (table < table_count) }
-    ensures { result ≡ lowest (row_bad (tables book.now) table) }
+// The lowest bad active role, if there is one.
+fn bad_active_in(book: &book::Words, subjects: u64, roles: u64) -> Option<u64>
+    ensures { IsLowest (active_bad (tables book.now) subjects roles) result }
+{
+    (0..64).find(|r| is_bad_active_at(book, subjects, roles, *r))
+}
+
+// The lowest bad row of a table, if it has one.
+// Stays: a match on the table, which says in a line for each what it may hold; closures handed in would be these lines in another place.
+// A call of its own, so that what goes through the tables keeps them in a frame, and not below the stack's end, in the red zone.
+#[inline(never)]
+fn bad_row_in(book: &book::Words, table: Table) -> Option<u64>
+    ensures { IsLowest (row_bad (tables book.now) (number table)) result }
 {
     let tasks = book::head(book, book::TASKS);
     let roles = book::head(book, book::ROLES);
     let subjects = book::head(book, book::SUBJECTS);
     match table {
-        book::SME..=book::SB => bad_mask_in(book, table, tasks, tasks),
-        book::JUNIORS => bad_mask_in(book, table, roles, roles),
-        book::TASKS_OF => bad_mask_in(book, table, roles, tasks),
-        book::ROLES_OF => bad_mask_in(book, table, subjects, roles),
-        book::ACTIVE => bad_active_in(book, subjects, roles),
-        _ => bad_mask_in(book, table, !0, tasks),
+        Table::Sme | Table::Dme | Table::Rb | Table::Sb => bad_mask_in(book, table, tasks, tasks),
+        Table::Juniors => bad_mask_in(book, table, roles, roles),
+        Table::TasksOf => bad_mask_in(book, table, roles, tasks),
+        Table::RolesOf => bad_mask_in(book, table, subjects, roles),
+        Table::Active => bad_active_in(book, subjects, roles),
+        Table::Orders => bad_mask_in(book, table, !0, tasks),
     }
 }
 
 // The cells of an order, joined: 0 where all are 0.
-fn joined_cells(book: &[u64], order: u64) -> u64
-    requires { Full book.now × (order < 64) }
+fn joined_cells(book: &book::Words, order: u64) -> u64
+    requires { order < 64 }
     ensures { result ≡ joined_cells (tables book.now) order }
 {
     let mut any = 0;
     for t in 0..64 {
-        any = any | book::cell(book, order, t);
+        any |= book::cell(book, order, t);
     }
     any
 }
 
-// The lowest bad cell of an order with these tasks; 64 where there is none. A cell of 0 is never bad.
-fn bad_cell_among(book: &[u64], order: u64, tasks: u64) -> u64
-    requires { Full book.now × (order < 64) × (tasks ≡ (tables book.now).row orders order) }
-    ensures { result ≡ lowest (cell_bad (tables book.now) order) }
+// Whether the cell of an order with these tasks, and of task t, is bad. A cell of 0 is never bad.
+fn is_bad_cell_at(book: &book::Words, order: u64, tasks: u64, t: u64) -> bool
+    requires { (order < 64) × (tasks ≡ (tables book.now).row orders order) × (t < 64) }
+    ensures { result ≡ cell_bad (tables book.now) order t }
 {
-    let roles = book::head(book, book::ROLES);
-    let subjects = book::head(book, book::SUBJECTS);
-    for t in 0..64 {
-        let v = book::cell(book, order, t);
-        if v == 0 {
-            continue;
-        }
-        if is_bad_cell(sets::has(tasks, t), roles, subjects, v) {
-            return t;
-        }
-    }
-    64
+    let v = book::cell(book, order, t);
+    v != 0
+        && is_bad_cell(
+            sets::has(tasks, t),
+            book::head(book, book::ROLES),
+            book::head(book, book::SUBJECTS),
+            v,
+        )
 }
 
-// The lowest bad cell of an order; 64 where there is none. Most orders are closed, and then all their cells are 0.
-fn bad_cell_in(book: &[u64], order: u64) -> u64
-    requires { Full book.now × (order < 64) }
-    ensures { result ≡ lowest (cell_bad (tables book.now) order) }
+// The lowest bad cell of an order with these tasks, if it has one.
+fn bad_cell_among(book: &book::Words, order: u64, tasks: u64) -> Option<u64>
+    requires { (order < 64) × (tasks ≡ (tables book.now).row orders order) }
+    ensures { IsLowest (cell_bad (tables book.now) order) result }
 {
-    let tasks = book::row(book, book::ORDERS, order);
-    if tasks == 0 {
-        if joined_cells(book, order) == 0 {
-            return 64;
-        }
+    (0..64).find(|t| is_bad_cell_at(book, order, tasks, *t))
+}
+
+// The lowest bad cell of an order, if it has one. Most orders are closed, and then all their cells are 0.
+fn bad_cell_in(book: &book::Words, order: u64) -> Option<u64>
+    requires { order < 64 }
+    ensures { IsLowest (cell_bad (tables book.now) order) result }
+{
+    let tasks = book::row(book, Table::Orders, order);
+    if tasks == 0 && joined_cells(book, order) == 0 {
+        return None;
     }
     bad_cell_among(book, order, tasks)
 }
 
-// The lowest bad word; 4,676 where the book is well-formed. Of the head only word 3 can be bad.
-pub fn first_bad(book: &[u64]) -> u64
-    requires { Full book.now }
-    ensures { result ≡ first_bad (tables book.now) }
+// The lowest bad word, if the book is not well-formed. Of the head only word 3 can be bad.
+pub fn first_bad(book: &book::Words) -> Option<u64>
+    ensures { IsFirstBad (tables book.now) result }
 {
     if book::head(book, 3) != 0 {
-        return 3;
+        return Some(3);
     }
-    for table in 0..9 {
-        let r = bad_row_in(book, table);
-        if r < 64 {
-            return book::row_at(table, r);
+    for table in book::TABLES {
+        if let Some(r) = bad_row_in(book, table) {
+            return Some(book::row_at(table, r));
         }
     }
     for order in 0..64 {
-        let t = bad_cell_in(book, order);
-        if t < 64 {
-            return book::cell_at(order, t);
+        if let Some(t) = bad_cell_in(book, order) {
+            return Some(book::cell_at(order, t));
         }
     }
-    book::END
+    None
 }

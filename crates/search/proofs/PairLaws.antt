@@ -1,6 +1,7 @@
 -- How a nested search shows that it gives the pair of a test, and how a caller says the pair as an answer.
 use mathlib.Core.Path.{◌≡◌, refl, sym, ap, ◌∙◌}
 use mathlib.Core.Bool.{Bool, true, false, ◌&&◌}
+use Rattle.std.proofs.Common.{Option, Some, None}
 use Prim.Native.Nat.{ℕ, ◌-◌, ◌^◌, ◌≤◌, ◌<◌}
 use native.Mathlib.Omega.{arith}
 use native.Mathlib.Decide.{dec_lt}
@@ -10,25 +11,23 @@ use borrow.Author.Tests.{lt-ltb, le-ltb}
 use Rattle.sets.specs.Mask.{bit, without}
 use Rattle.sets.specs.Search.{lowest, paired}
 use Rattle.sets.proofs.Logic.{and_fails_l}
-use Rattle.sets.proofs.MaskLaws.{bit-and, bit_not}
-use Rattle.sets.proofs.SearchLaws.{lowest_passes, lowest_most, lowest_same, none_found}
+use Rattle.sets.proofs.MaskLaws.{bit-and, bit_none, bit_not}
+use Rattle.sets.proofs.SearchLaws.{lowest_end, lowest_most, lowest_same, none_found}
 use Rattle.sets.proofs.MemberLaws.{lowest_lt, lowest_in, Seen, seen_on, seen_at}
 use Rattle.rules.specs.Numbers.{Said, say_xyz, some_pair, given, given_pair_in, outside, between}
-use Rattle.search.specs.declared.Found.{Found}
-use Rattle.search.specs.declared.Found.TheVariants.{Pair, Nothing}
 use Rattle.search.specs.Pairs.{is_pair, pair_of, found_pair, told_pair}
 
 module _ (f : ℕ → ℕ → Bool) where
   -- The pair is x, the lowest with a partner, and y, its lowest partner.
-  pub found_at : (x y : ℕ) → x < 64 → x ≡ lowest (paired f) → y ≡ lowest (f x) → Pair x y ≡ found_pair f
+  pub found_at : (x y : ℕ) → x < 64 → x ≡ lowest (paired f) → y ≡ lowest (f x) → Some (x, y) ≡ found_pair f
   unfolding found_pair pair_of
   found_at x y h e p =
-      ap (Pair x) p
-      ∙ sym (ap (λ (t : Bool). elim t as (λ (z : Bool). Found) [ true ↦ Pair x (lowest (f x)) | false ↦ Nothing ]) (lt-ltb x 64 h))
+      ap (λ (v : ℕ). Some (x, v)) p
+      ∙ sym (ap (λ (t : Bool). elim t as (λ (z : Bool). Option (ℕ × ℕ)) [ true ↦ Some (x, lowest (f x)) | false ↦ None ]) (lt-ltb x 64 h))
       ∙ ap (pair_of f) e
 
   -- There is no pair where none has a partner.
-  pub nothing_at : 64 ≡ lowest (paired f) → Nothing ≡ found_pair f
+  pub nothing_at : 64 ≡ lowest (paired f) → None ≡ found_pair f
   unfolding found_pair pair_of
   nothing_at e = ap (pair_of f) e
 
@@ -37,25 +36,25 @@ module _ (f : ℕ → ℕ → Bool) where
   unfolding found_pair pair_of given_pair_in given
   pair_said n z rest = go (lowest (paired f)) (ltb (lowest (paired f)) 64)
     where
-      go : (x : ℕ) (t : Bool) → told_pair n (elim t [ true ↦ Pair x (lowest (f x)) | false ↦ Nothing ]) z rest
+      go : (x : ℕ) (t : Bool) → told_pair n (elim t [ true ↦ Some (x, lowest (f x)) | false ↦ None ]) z rest
           ≡ (elim t as (λ (z : Bool). Said) [ true ↦ say_xyz n x (lowest (f x)) z | false ↦ rest ])
       go x true = refl
       go x false = refl
 
   -- For a caller of a search that gave v: where v is a pair, the number is given with it ..
-  pub given_pair_lem : (n z : ℕ) (rest : Said) {v : Found} {x y : ℕ} → v ≡ found_pair f → v ≡ Pair x y → given_pair_in n f z rest ≡ say_xyz n x y z
-  given_pair_lem n z rest e p = sym (pair_said n z rest) ∙ ap (λ (w : Found). told_pair n w z rest) (sym e ∙ p)
+  pub given_pair_lem : (n z : ℕ) (rest : Said) {v : Option (ℕ × ℕ)} {x y : ℕ} → v ≡ found_pair f → v ≡ Some (x, y) → given_pair_in n f z rest ≡ say_xyz n x y z
+  given_pair_lem n z rest e p = sym (pair_said n z rest) ∙ ap (λ (w : Option (ℕ × ℕ)). told_pair n w z rest) (sym e ∙ p)
 
   -- .. and where it is nothing, the rest is asked.
-  pub given_nothing : (n z : ℕ) (rest : Said) {v : Found} → v ≡ found_pair f → v ≡ Nothing → given_pair_in n f z rest ≡ rest
-  given_nothing n z rest e p = sym (pair_said n z rest) ∙ ap (λ (w : Found). told_pair n w z rest) (sym e ∙ p)
+  pub given_nothing : (n z : ℕ) (rest : Said) {v : Option (ℕ × ℕ)} → v ≡ found_pair f → v ≡ None → given_pair_in n f z rest ≡ rest
+  given_nothing n z rest e p = sym (pair_said n z rest) ∙ ap (λ (w : Option (ℕ × ℕ)). told_pair n w z rest) (sym e ∙ p)
 
   -- There is a pair exactly where one is found.
-  pub found_some : {v : Found} → v ≡ found_pair f → is_pair v ≡ some_pair f
+  pub found_some : {v : Option (ℕ × ℕ)} → v ≡ found_pair f → is_pair v ≡ some_pair f
   unfolding found_pair pair_of
   found_some e = ap is_pair e ∙ go (lowest (paired f)) (ltb (lowest (paired f)) 64)
     where
-      go : (x : ℕ) (t : Bool) → is_pair (elim t [ true ↦ Pair x (lowest (f x)) | false ↦ Nothing ]) ≡ t
+      go : (x : ℕ) (t : Bool) → is_pair (elim t [ true ↦ Some (x, lowest (f x)) | false ↦ None ]) ≡ t
       go x true = refl
       go x false = refl
 
@@ -74,9 +73,9 @@ found_same f g same = go (dec_lt (lowest (paired f)) 64)
         let end : 64 ≡ lowest (paired f) = omega (arith, lowest_most 64 0 (paired f)) in
         sym (nothing_at f end) ∙ nothing_at g (end ∙ first)
 
--- A search that begins at the lowest member of the set finds it at once.
-pub at_once : (m : ℕ) {y : ℕ} {t : Bool} → y ≡ lowest (bit m) → y < 64 → t ≡ bit m y → t ≡ true
-at_once m e h p = p ∙ ap (bit m) e ∙ lowest_passes 64 0 (bit m) (omega arith)
+-- Nobody is the lowest of an empty set.
+pub lowest_none : {m : ℕ} → m ≡ 0 → 64 ≡ lowest (bit m)
+lowest_none e = lowest_end 64 (bit 0) (λ k l. bit_none k) ∙ ap (λ (m : ℕ). lowest (bit m)) (sym e)
 
 -- As a search over the members of xs shows the pair.
 module _ (rows : ℕ → ℕ) (xs ys : ℕ) where
@@ -100,7 +99,7 @@ module _ (rows : ℕ → ℕ) (xs ys : ℕ) where
     has e = ap (paired (between rows xs ys)) (sym at) ∙ ap (λ (k : ℕ). ltb k 64) (sym partner) ∙ e
 
     -- x has a partner: the pair is found
-    pub pair_at : y < 64 → Seen (paired (between rows xs ys)) false left → Pair x y ≡ found_pair (between rows xs ys)
+    pub pair_at : y < 64 → Seen (paired (between rows xs ys)) false left → Some (x, y) ≡ found_pair (between rows xs ys)
     pair_at h seen =
         let f = between rows xs ys in
         found_at f x y (omega (arith, lowest_lt left some fits)) (at ∙ seen_at (paired f) some fits seen (has (lt-ltb y 64 h))) partner

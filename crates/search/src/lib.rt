@@ -4,48 +4,36 @@
 #![tactic(auto)]
 
 ghost use Rattle.std.specs.Prelude.{◌≡◌, ◌<◌};
-ghost use Rattle.rules.specs.Book.{table_count};
 ghost use Rattle.sets.specs.Mask.{meet, alone_if, picked};
-ghost use Rattle.sets.specs.Search.{lowest};
+ghost use Rattle.sets.specs.Members.{IsLowest};
 ghost use Rattle.rules.specs.Requests.{is_open};
 ghost use Rattle.rules.specs.Numbers.{between, outside};
 ghost use Rattle.rules.specs.Audit.{pair_free};
-ghost use Rattle.book.specs.Slice.{tables, Full};
+ghost use Rattle.book.specs.Tables.{number};
+ghost use Rattle.book.specs.Slice.{tables};
 ghost use Rattle.search.specs.Pairs.{found_pair};
 
-// What a search over pairs gives.
-#[derive(Drop)]
-pub enum Found {
-    Pair(u64, u64),
-    Nothing,
-}
+use book::Table;
 
 // x of xs the lowest that has a partner, then y its lowest partner: y of ys in x's row of the table. The form is document 01's; since the
-// inner loop begins at the lowest partner, it takes one turn where there is one.
-pub fn first_pair(book: &[u64], table: u64, xs: u64, ys: u64) -> Found
-    requires { Full book.now × (table < table_count) }
-    ensures { result ≡ found_pair (between ((tables book.now).row table) xs ys) }
+// inner loop visits partners alone, it takes one turn where there is one.
+pub fn first_pair(book: &book::Words, table: Table, xs: u64, ys: u64) -> Option<(u64, u64)>
+    ensures { result ≡ found_pair (between ((tables book.now).row (number table)) xs ys) }
 {
-    let mut found = Found::Nothing;
-    let mut left = xs;
-    'search: while left != 0 {
-        let x = sets::lowest(left);
-        let partners = book::row(book, table, x) & ys;
-        for y in sets::lowest(partners)..64 {
-            if sets::has(partners, y) {
-                found = Found::Pair(x, y);
-                break 'search;
-            }
+    let mut found = None;
+    'search: for x in sets::each(xs) {
+        for y in sets::each(book::row(book, table, x) & ys) {
+            found = Some((x, y));
+            break 'search;
         }
-        left = sets::rest(left);
     }
     found
 }
 
 // Number r alone, where row r of the table meets the set; else nothing.
-pub fn meeting_row(book: &[u64], table: u64, set: u64, r: u64) -> u64
-    requires { Full book.now × (table < table_count) × (r < 64) }
-    ensures { result ≡ alone_if (λ i. meet ((tables book.now).row table i) set) r }
+pub fn meeting_row(book: &book::Words, table: Table, set: u64, r: u64) -> u64
+    requires { r < 64 }
+    ensures { result ≡ alone_if (λ i. meet ((tables book.now).row (number table) i) set) r }
 {
     if sets::meets(book::row(book, table, r), set) {
         sets::alone(r)
@@ -55,50 +43,43 @@ pub fn meeting_row(book: &[u64], table: u64, set: u64, r: u64) -> u64
 }
 
 // The numbers among `those` whose rows of the table meet the set.
-pub fn meeting(book: &[u64], table: u64, those: u64, set: u64) -> u64
-    requires { Full book.now × (table < table_count) }
-    ensures { result ≡ picked (λ i. meet ((tables book.now).row table i) set) those }
+pub fn meeting(book: &book::Words, table: Table, those: u64, set: u64) -> u64
+    ensures { result ≡ picked (λ i. meet ((tables book.now).row (number table) i) set) those }
 {
     let mut out = 0;
-    let mut left = those;
-    while left != 0 {
-        out = out | meeting_row(book, table, set, sets::lowest(left));
-        left = sets::rest(left);
+    for r in sets::each(those) {
+        out |= meeting_row(book, table, set, r);
     }
     out
 }
 
 // Whether the set holds no pair of the table: no member's row meets the set.
-pub fn is_pair_free(book: &[u64], table: u64, set: u64) -> bool
-    requires { Full book.now × (table < table_count) }
-    ensures { result ≡ pair_free ((tables book.now).row table) set }
+pub fn is_pair_free(book: &book::Words, table: Table, set: u64) -> bool
+    ensures { result ≡ pair_free ((tables book.now).row (number table)) set }
 {
-    let mut left = set;
-    while left != 0 {
-        if sets::meets(book::row(book, table, sets::lowest(left)), set) {
+    for x in sets::each(set) {
+        if sets::meets(book::row(book, table, x), set) {
             return false;
         }
-        left = sets::rest(left);
     }
     true
 }
 
-// The lowest of xs that is not in ys; 64 where there is none.
-pub fn lowest_outside(xs: u64, ys: u64) -> u64
-    ensures { result ≡ lowest (outside xs ys) }
+// The lowest of xs that is not in ys.
+pub fn lowest_outside(xs: u64, ys: u64) -> Option<u64>
+    ensures { IsLowest (outside xs ys) result }
 {
-    sets::lowest(xs & !ys)
+    sets::first(xs & !ys)
 }
 
-// The lowest open order; 64 where there is none.
-pub fn lowest_open(book: &[u64]) -> u64
-    requires { Full book.now }
-    ensures { result ≡ lowest (is_open (tables book.now)) }
+// The lowest open order.
+pub fn lowest_open(book: &book::Words) -> Option<u64>
+    ensures { IsLowest (is_open (tables book.now)) result }
 {
     for p in 0..64 {
-        if book::row(book, book::ORDERS, p) != 0 {
-            return p;
+        if book::row(book, Table::Orders, p) != 0 {
+            return Some(p);
         }
     }
-    64
+    None
 }

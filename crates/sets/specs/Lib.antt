@@ -1,3 +1,4 @@
 pub mod Mask
 pub mod Search
 pub mod Count
+pub mod Members

@@ -5,6 +5,7 @@ ghost use Rattle.std.specs.Prelude.{◌≡◌, ◌^◌, ◌<◌};
 ghost use Rattle.sets.specs.Mask.{bit, with, without, within, meet};
 ghost use Rattle.sets.specs.Count.{count};
 ghost use Rattle.sets.specs.Search.{lowest};
+ghost use Rattle.sets.specs.Members.{Visits, IsLowest};
 
 // The set of number i alone.
 pub fn alone(i: u64) -> u64
@@ -60,16 +61,56 @@ pub fn count(set: u64) -> u64
 }
 
 // The lowest member of the set, by the zero bits below it; 64 where it has none.
+// Stays: 64 for none, as `u64::trailing_zeros` has it and the definition `lowest`; `first` is the Option.
 pub fn lowest(set: u64) -> u64
     ensures { result ≡ lowest (bit set) }
 {
     u64::trailing_zeros(set) as u64
 }
 
-// The set without its lowest member. A loop that goes on with the rest visits each member once, from the lowest.
+// The set without its lowest member.
 pub fn rest(set: u64) -> u64
     requires { 0 < set }
     ensures { result ≡ without set (lowest (bit set)) }
 {
     set & (set - 1)
+}
+
+// The lowest member of the set, if it has one.
+pub fn first(set: u64) -> Option<u64>
+    ensures { IsLowest (bit set) result }
+{
+    if set == 0 { None } else { Some(lowest(set)) }
+}
+
+// The members of a set, from the lowest on, each once: what a `for` over them visits. `left` are those still to come.
+#[derive(Drop)]
+pub struct Members {
+    pub left: u64,
+}
+
+// All members of the set.
+pub fn each(set: u64) -> Members
+    ensures { result.left ≡ set }
+{
+    Members { left: set }
+}
+
+impl Iterator for Members {
+    ghost use Rattle.std.specs.Iterator.{at_most};
+
+    type Item = u64;
+
+    ghost next_gives = { λ s r t. Visits s.left r t.left };
+
+    ghost remaining = { λ s. at_most s.left };
+
+    fn next(&mut self) -> Option<u64> {
+        if self.left == 0 {
+            return None;
+        }
+        let member = lowest(self.left);
+        self.left = rest(self.left);
+        Some(member)
+    }
 }

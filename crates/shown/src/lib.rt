@@ -6,56 +6,72 @@ mod about;
 mod entries;
 mod tables;
 
-ghost use Rattle.std.specs.Prelude.{◌<◌};
-ghost use Rattle.book.specs.Slice.{Full};
+use called::Pen;
+use entries::{Hand, Thing};
+use labels::Sort;
+use tables::table;
 
 // Writes the whole book.
-pub fn book(paper: &mut [u8], names: &[u8], book: &[u64]) {
-    if book.len() == book::WORDS {
-        tables::table(paper, names, book, tables::PEOPLE);
-        tables::table(paper, names, book, tables::ROLES);
-        tables::table(paper, names, book, tables::TASKS);
-        tables::table(paper, names, book, tables::HANDS);
-    }
+pub fn book(pen: &mut Pen, book: &[u64]) {
+    let Ok(book) = <&book::Words>::try_from(book) else {
+        return;
+    };
+    table(
+        pen,
+        &["person", "has roles", "acts in", "owns tasks"],
+        64,
+        |n| Thing::known(book, Sort::Person, n).map(|s| entries::of_person(book, s)),
+    );
+    table(
+        pen,
+        &["role", "juniors", "has tasks", "owns tasks"],
+        64,
+        |n| Thing::known(book, Sort::Role, n).map(|r| entries::of_role(book, r)),
+    );
+    table(
+        pen,
+        &[
+            "task",
+            "SME",
+            "DME",
+            "RB",
+            "SB",
+            "subject group",
+            "role group",
+        ],
+        64,
+        |n| Thing::known(book, Sort::Task, n).map(|t| entries::of_task(book, t)),
+    );
+    table(
+        pen,
+        &["order", "task", "role", "person"],
+        entries::CELL_COUNT,
+        |at| Hand::known(book, at).map(|hand| entries::of_hand(book, hand)),
+    );
 }
 
 // Writes that there is no such thing, or that an order is not open.
-fn nothing(paper: &mut [u8], names: &[u8], sort: u64, n: u64) {
-    if sort == labels::ORDER {
-        output::bytes(paper, b"order ");
-        called::thing(paper, names, sort, n);
-        output::bytes(paper, b" is not open\n");
-        return;
+fn nothing(pen: &mut Pen, sort: Sort, n: u64) {
+    if sort == Sort::Order {
+        pen.paper.text("order ");
+        pen.thing(sort, n);
+        pen.paper.text(" is not open\n");
+    } else {
+        pen.paper.text("there is no ");
+        pen.sort(sort);
+        pen.paper.text(" ");
+        pen.thing(sort, n);
+        pen.paper.text("\n");
     }
-    output::bytes(paper, b"there is no ");
-    called::sort(paper, sort);
-    output::byte(paper, b' ');
-    called::thing(paper, names, sort, n);
-    output::byte(paper, b'\n');
-}
-
-// Writes all about a thing that is in the book.
-fn known(paper: &mut [u8], names: &[u8], book: &[u64], sort: u64, n: u64)
-    requires { Full book.now × (n < 64) }
-{
-    about::title(paper, names, sort, n);
-    about::size(paper, book, sort, n);
-    about::facts(paper, names, book, sort, n);
-    about::hands(paper, names, book, sort, n);
 }
 
 // Writes all about one thing.
-pub fn thing(paper: &mut [u8], names: &[u8], book: &[u64], sort: u64, n: u64) {
-    if book.len() != book::WORDS {
+pub fn thing(pen: &mut Pen, book: &[u64], sort: Sort, n: u64) {
+    let Ok(book) = <&book::Words>::try_from(book) else {
         return;
-    }
-    if 63 < n {
-        nothing(paper, names, sort, n);
-        return;
-    }
-    if entries::is_known(book, sort, n) {
-        known(paper, names, book, sort, n);
-    } else {
-        nothing(paper, names, sort, n);
+    };
+    match Thing::known(book, sort, n) {
+        Some(thing) => about::all(pen, book, thing),
+        None => nothing(pen, sort, n),
     }
 }

@@ -1,154 +1,114 @@
 // What is wrong with a line that is no request.
-use crate::wanted;
+use crate::wanted::Place;
+use called::Pen;
+use labels::Sort;
+use output::Paper;
 use typed::Reason;
 
 // How much of a word is shown.
 const SHOWN: usize = 40;
 
-// A byte that can be seen, as it is; any other as a ?.
-fn visible(byte: u8) -> u8 {
-    match byte {
-        33..=126 => byte,
-        _ => b'?',
+// Writes the first bytes of a word: one that can't be seen as a ?.
+fn letters(paper: &mut Paper, word: &[u8]) {
+    for byte in word.iter().take(SHOWN) {
+        paper.byte(if byte.is_ascii_graphic() { *byte } else { b'?' });
     }
 }
 
-// Writes the first bytes of a word.
-fn letters(paper: &mut [u8], word: &[u8]) {
-    let mut i: usize = 0;
-    while i < word.len() && i < SHOWN {
-        output::byte(paper, visible(word[i]));
-        i += 1;
-    }
-}
-
-// Writes what tells that there was more of the word.
-fn dots(paper: &mut [u8], word: &[u8]) {
-    if SHOWN < word.len() {
-        output::bytes(paper, b"..");
-    }
-}
-
-// A word that was typed, between two '.
-fn quote(paper: &mut [u8], word: &[u8]) {
-    output::byte(paper, b'\'');
+// A word that was typed, between two ', with .. where there was more of it.
+fn quote(paper: &mut Paper, word: &[u8]) {
+    paper.byte(b'\'');
     letters(paper, word);
-    dots(paper, word);
-    output::byte(paper, b'\'');
-}
-
-// What an unknown word is not.
-fn none_such(paper: &mut [u8], in_help: bool) {
-    if in_help {
-        output::bytes(paper, b" is no word of the panel");
-    } else {
-        output::bytes(paper, b" is no kind of request");
+    if SHOWN < word.len() {
+        paper.text("..");
     }
+    paper.byte(b'\'');
 }
 
-fn unknown_word(paper: &mut [u8], word: &[u8], in_help: bool) {
+// A word that the panel does not know.
+fn unknown_word(paper: &mut Paper, word: &[u8], in_help: bool) {
     quote(paper, word);
-    none_such(paper, in_help);
+    paper.text(if in_help {
+        " is no word of the panel"
+    } else {
+        " is no kind of request"
+    });
     manual::suggest(paper, word);
 }
 
-fn not_sort(paper: &mut [u8], word: &[u8]) {
+fn not_sort(paper: &mut Paper, word: &[u8]) {
     quote(paper, word);
-    output::bytes(paper, b" is no sort of thing: task, role, person or order");
+    paper.text(" is no sort of thing: task, role, person or order");
 }
 
-fn not_name(paper: &mut [u8], word: &[u8]) {
+fn not_name(paper: &mut Paper, word: &[u8]) {
     quote(paper, word);
-    output::bytes(
-        paper,
-        b" can't be a name: letters, digits, - and _, not beginning with a digit, 24 at most",
+    paper.text(
+        " can't be a name: letters, digits, - and _, not beginning with a digit, 24 at most",
     );
 }
 
-fn unknown_name(paper: &mut [u8], sort: u64, word: &[u8]) {
-    output::bytes(paper, b"no ");
-    called::sort(paper, sort);
-    output::bytes(paper, b" is called ");
-    letters(paper, word);
+fn unknown_name(pen: &mut Pen, sort: Sort, word: &[u8]) {
+    pen.paper.text("no ");
+    pen.sort(sort);
+    pen.paper.text(" is called ");
+    letters(pen.paper, word);
 }
 
-fn taken(paper: &mut [u8], names: &[u8], sort: u64, word: &[u8]) {
-    called::sort(paper, sort);
-    output::byte(paper, b' ');
-    output::number(paper, labels::find(names, sort, word));
-    output::bytes(paper, b" is called ");
-    letters(paper, word);
-    output::bytes(paper, b" already");
+fn taken(pen: &mut Pen, sort: Sort, word: &[u8]) {
+    pen.sort(sort);
+    pen.paper.byte(b' ');
+    if let Some(n) = labels::find(pen.names, sort, word) {
+        pen.paper.number(n);
+    }
+    pen.paper.text(" is called ");
+    letters(pen.paper, word);
+    pen.paper.text(" already");
 }
 
-fn too_long(paper: &mut [u8]) {
-    output::bytes(paper, b"the line is longer than ");
-    output::number(paper, typed::ROOM as u64);
-    output::bytes(paper, b" bytes");
+fn too_long(paper: &mut Paper) {
+    paper.text("the line is longer than ");
+    paper.number(typed::ROOM as u64);
+    paper.text(" bytes");
 }
 
-// `word 2`, by where it begins.
-fn word_at(paper: &mut [u8], line: &[u8], start: usize) {
-    output::bytes(paper, b"word ");
-    output::number(paper, wanted::place(line, 0, start));
+// `word 2`, and what is wrong with it as a number, or with its being there.
+fn misplaced(paper: &mut Paper, at: Place, wrong: &str) {
+    paper.text("word ");
+    paper.number(at.number());
+    paper.text(wrong);
 }
 
-fn not_in_range(paper: &mut [u8], line: &[u8], start: usize) {
-    word_at(paper, line, start);
-    output::bytes(paper, b" is no ");
-    called::sort(paper, wanted::sort(line, start));
-    output::bytes(paper, b"'s number: 0 to 63");
+fn not_in_range(pen: &mut Pen, at: Place, sort: Sort) {
+    misplaced(pen.paper, at, " is no ");
+    pen.sort(sort);
+    pen.paper.text("'s number: 0 to 63");
 }
 
 // What a missing word would have been, where the line asks for a request.
-fn missing(paper: &mut [u8], kind: u64) {
-    if kind == 0 {
-        output::bytes(paper, b" is missing");
-    } else {
-        output::bytes(paper, b" is missing: the kind uses more numbers");
+fn missing(at: Place) -> &'static str {
+    match at.kind() {
+        Some(_) => " is missing: the kind uses more numbers",
+        None => " is missing",
     }
 }
 
-fn too_few(paper: &mut [u8], line: &[u8], start: usize) {
-    word_at(paper, line, start);
-    missing(paper, wanted::kind(line));
-}
-
-// What is wrong with a word as a number, or with its being there.
-fn misplaced(paper: &mut [u8], line: &[u8], reason: Reason, start: usize) {
-    word_at(paper, line, start);
+// Writes what is wrong with the word at a place of a line.
+pub fn fault(pen: &mut Pen, reason: Reason, at: Place) {
+    // Wherever a sort is told, the line wants one there.
+    let sort = at.sort().unwrap_or(Sort::Order);
+    pen.paper.text("no request: ");
     match reason {
-        Reason::NotNumber => output::bytes(paper, b" is no decimal number"),
-        Reason::TooLarge => output::bytes(paper, b" is above 18446744073709551615"),
-        _ => output::bytes(paper, b" is one too many"),
-    }
-}
-
-// What is wrong with a word as a name or a sort.
-fn miscalled(paper: &mut [u8], names: &[u8], line: &[u8], reason: Reason, start: usize) {
-    let word = typed::next(line, start, true);
-    let from = word.start;
-    let to = word.end;
-    let sort = wanted::sort(line, start);
-    match reason {
-        Reason::UnknownWord => unknown_word(paper, &line[from..to], wanted::is_help(line)),
-        Reason::NotSort => not_sort(paper, &line[from..to]),
-        Reason::NotName => not_name(paper, &line[from..to]),
-        Reason::UnknownName => unknown_name(paper, sort, &line[from..to]),
-        _ => taken(paper, names, sort, &line[from..to]),
-    }
-}
-
-// Writes what is wrong with the word of the line that begins at `start`.
-pub fn fault(paper: &mut [u8], names: &[u8], line: &[u8], reason: Reason, start: usize) {
-    output::bytes(paper, b"no request: ");
-    match reason {
-        Reason::TooLong => too_long(paper),
-        Reason::TooFew => too_few(paper, line, start),
-        Reason::NotInRange => not_in_range(paper, line, start),
-        Reason::NotNumber => misplaced(paper, line, reason, start),
-        Reason::TooLarge => misplaced(paper, line, reason, start),
-        Reason::TooMany => misplaced(paper, line, reason, start),
-        _ => miscalled(paper, names, line, reason, start),
+        Reason::TooLong => too_long(pen.paper),
+        Reason::TooFew => misplaced(pen.paper, at, missing(at)),
+        Reason::TooMany => misplaced(pen.paper, at, " is one too many"),
+        Reason::NotNumber => misplaced(pen.paper, at, " is no decimal number"),
+        Reason::TooLarge => misplaced(pen.paper, at, " is above 18446744073709551615"),
+        Reason::NotInRange => not_in_range(pen, at, sort),
+        Reason::UnknownWord => unknown_word(pen.paper, at.word(), at.is_in_help()),
+        Reason::NotSort => not_sort(pen.paper, at.word()),
+        Reason::NotName => not_name(pen.paper, at.word()),
+        Reason::UnknownName => unknown_name(pen, sort, at.word()),
+        Reason::Taken => taken(pen, sort, at.word()),
     }
 }

@@ -1,187 +1,136 @@
 // Answers as JSON: one object to a line. Text stands in it between opened and closed, where the paper writes each byte so that nothing
 // can break the line.
-ghost use Rattle.std.specs.Prelude.{◌<◌};
-
-use crate::sentence::Facts;
+use crate::sentence::{Facts, Teller};
 use crate::wanted;
+use answers::{Answer, Reply};
+use called::Pen;
+use labels::Sort;
+use output::Paper;
 
 // A field that is a number, with what stands before it.
-pub fn number(paper: &mut [u8], before: &[u8], n: u64) {
-    output::bytes(paper, before);
-    output::number(paper, n);
+pub fn number(paper: &mut Paper, before: &str, n: u64) {
+    paper.text(before);
+    paper.number(n);
 }
 
 // A field that is true or false.
-fn flag(paper: &mut [u8], before: &[u8], is: bool) {
-    output::bytes(paper, before);
-    if is {
-        output::bytes(paper, b"true");
-    } else {
-        output::bytes(paper, b"false");
-    }
-}
-
-// Whether the request was accepted, and whether it was only tried.
-fn flags(paper: &mut [u8], accepted: bool, tried: bool) {
-    flag(paper, b",\"accepted\":", accepted);
-    flag(paper, b",\"tried\":", tried);
+fn flag(paper: &mut Paper, before: &str, is: bool) {
+    paper.text(before);
+    paper.text(if is { "true" } else { "false" });
 }
 
 // From here on everything written is inside a string ..
-pub fn opened(paper: &mut [u8], before: &[u8]) {
-    output::bytes(paper, before);
-    output::quoted(paper, true);
+pub fn opened(paper: &mut Paper, before: &str) {
+    paper.text(before);
+    paper.quoted(true);
 }
 
 // .. up to here, where the object ends.
-pub fn closed(paper: &mut [u8]) {
-    output::quoted(paper, false);
-    output::bytes(paper, b"\"}\n");
+pub fn closed(paper: &mut Paper) {
+    paper.quoted(false);
+    paper.text("\"}\n");
 }
 
-// The word of a row, between two ".
-fn quoted_row(paper: &mut [u8], row: u64) {
-    output::byte(paper, b'"');
-    manual::row(paper, row);
-    output::byte(paper, b'"');
-}
-
-// The word of a row that names the kinds in their order; null where it is none.
-fn row_or_null(paper: &mut [u8], row: u64) {
-    if row == vocabulary::KINDS {
-        output::bytes(paper, b"null");
-    } else if row < vocabulary::ROWS {
-        quoted_row(paper, row);
+// The word of a kind, between two "; null where it is none.
+fn word(paper: &mut Paper, kind: u64) {
+    paper.text(",\"word\":");
+    if 0 < kind && kind < vocabulary::ROWS - vocabulary::KINDS {
+        paper.byte(b'"');
+        manual::row(paper, vocabulary::KINDS + kind);
+        paper.byte(b'"');
     } else {
-        output::bytes(paper, b"null");
+        paper.text("null");
     }
 }
 
-// The word of a kind; null where it is none.
-fn word(paper: &mut [u8], kind: u64) {
-    output::bytes(paper, b",\"word\":");
-    if kind < vocabulary::ROWS {
-        row_or_null(paper, vocabulary::KINDS + kind);
-    } else {
-        output::bytes(paper, b"null");
+// The names of the request's things and the answer's, each behind the letter that its number has.
+fn all_names(pen: &mut Pen, v: Facts, answer: Answer) {
+    let names = pen.names;
+    let typed::Takes(a, b, c) = typed::wanted(v.kind);
+    let [x, y, z] = wanted::sorts_told(answer);
+    let things = [
+        (b'a', a, v.a),
+        (b'b', b, v.b),
+        (b'c', c, v.c),
+        (b'x', x, v.x),
+        (b'y', y, v.y),
+        (b'z', z, v.z),
+    ];
+    let named = things.iter().filter(|(_, sort, n)| !labels::name_of(names, *sort, *n).is_empty());
+    pen.paper.text(",\"names\":{");
+    for (i, (letter, sort, n)) in named.enumerate() {
+        pen.paper.text(if i == 0 { "\"" } else { ",\"" });
+        pen.paper.byte(*letter);
+        pen.paper.text("\":\"");
+        pen.name(*sort, *n);
+        pen.paper.byte(b'"');
     }
-}
-
-// What parts a name from those before it.
-fn comma(paper: &mut [u8], wanted: bool) {
-    if wanted {
-        output::byte(paper, b',');
-    }
-}
-
-// The name of the number that a letter stands for, if it has one; tells whether any has been written by now.
-fn name(paper: &mut [u8], names: &[u8], letter: u8, sort: u64, n: u64, before: bool) -> bool {
-    if labels::length_of(names, sort, n) == 0 {
-        return before;
-    }
-    comma(paper, before);
-    output::byte(paper, b'"');
-    output::byte(paper, letter);
-    output::bytes(paper, b"\":\"");
-    called::name(paper, names, sort, n);
-    output::byte(paper, b'"');
-    true
-}
-
-// The names of the request's things; tells whether there are any.
-fn request_names(paper: &mut [u8], names: &[u8], v: Facts) -> bool {
-    let one = name(paper, names, b'a', typed::first_of(v.kind), v.a, false);
-    let two = name(paper, names, b'b', typed::second_of(v.kind), v.b, one);
-    name(paper, names, b'c', typed::third_of(v.kind), v.c, two)
-}
-
-// The names of the answer's things.
-fn answer_names(paper: &mut [u8], names: &[u8], number: u64, v: Facts, before: bool) {
-    let one = name(paper, names, b'x', wanted::x_of(number), v.x, before);
-    let two = name(paper, names, b'y', wanted::y_of(number), v.y, one);
-    name(paper, names, b'z', wanted::z_of(number), v.z, two);
-}
-
-// The names of the request's things and the answer's.
-fn all_names(paper: &mut [u8], names: &[u8], number: u64, v: Facts) {
-    output::bytes(paper, b",\"names\":{");
-    let some = request_names(paper, names, v);
-    answer_names(paper, names, number, v, some);
-    output::bytes(paper, b"}");
-}
-
-// The request's numbers, and the answer's.
-fn numbers(paper: &mut [u8], answer: u64, v: Facts) {
-    number(paper, b",\"a\":", v.a);
-    number(paper, b",\"b\":", v.b);
-    number(paper, b",\"c\":", v.c);
-    reply(paper, answer, v.x, v.y);
-    number(paper, b",\"z\":", v.z);
+    pen.paper.text("}");
 }
 
 // The name of a task, between two "; null where it has none.
-fn name_or_null(paper: &mut [u8], names: &[u8], n: u64) {
-    if labels::length_of(names, labels::TASK, n) == 0 {
-        output::bytes(paper, b"null");
+fn name_or_null(paper: &mut Paper, names: &[u8], n: u64) {
+    let name = labels::name_of(names, Sort::Task, n);
+    if name.is_empty() {
+        paper.text("null");
     } else {
-        output::byte(paper, b'"');
-        called::name(paper, names, labels::TASK, n);
-        output::byte(paper, b'"');
+        paper.byte(b'"');
+        paper.bytes(name);
+        paper.byte(b'"');
     }
 }
 
-// A task of the mask, with its name, parted from those before it; nothing where it is none of the mask.
-fn task_if(paper: &mut [u8], names: &[u8], mask: u64, n: u64)
-    requires { n < 64 }
-{
-    if sets::has(mask, n) {
-        comma(paper, sets::lowest(mask) < n);
-        number(paper, b"{\"task\":", n);
-        output::bytes(paper, b",\"name\":");
+// The tasks of a mask, with their names.
+fn tasks(paper: &mut Paper, names: &[u8], mask: u64) {
+    for (i, n) in sets::each(mask).enumerate() {
+        if i != 0 {
+            paper.byte(b',');
+        }
+        number(paper, "{\"task\":", n);
+        paper.text(",\"name\":");
         name_or_null(paper, names, n);
-        output::byte(paper, b'}');
+        paper.byte(b'}');
     }
 }
 
-// The tasks of a mask.
-fn tasks(paper: &mut [u8], names: &[u8], mask: u64) {
-    for n in 0..64u64 {
-        task_if(paper, names, mask, n);
-    }
-}
-
-// How many tasks y names, and which: where it is a mask.
-fn clash(paper: &mut [u8], names: &[u8], answer: u64, mask: u64) {
-    if wanted::is_mask(answer) {
-        number(paper, b",\"count\":", sets::count(mask));
-        output::bytes(paper, b",\"tasks\":[");
+// How many tasks the answer's mask names, and which: where it has one.
+fn clash(paper: &mut Paper, names: &[u8], answer: Answer) {
+    if let Some(mask) = wanted::clashing(answer) {
+        number(paper, ",\"count\":", sets::count(mask));
+        paper.text(",\"tasks\":[");
         tasks(paper, names, mask);
-        output::byte(paper, b']');
+        paper.byte(b']');
     }
 }
 
 // The numbers that an answer and a finding both have.
-pub fn reply(paper: &mut [u8], answer: u64, x: u64, y: u64) {
-    number(paper, b",\"number\":", answer);
-    number(paper, b",\"x\":", x);
-    number(paper, b",\"y\":", y);
+pub fn reply(paper: &mut Paper, reply: Reply) {
+    number(paper, ",\"number\":", reply.number);
+    number(paper, ",\"x\":", reply.x);
+    number(paper, ",\"y\":", reply.y);
 }
 
-// An answer up to its text.
-pub fn answer(
-    paper: &mut [u8],
-    names: &[u8],
-    line: u64,
-    number_of_answer: u64,
-    v: Facts,
-    tried: bool,
-) {
-    number(paper, b"{\"line\":", line);
-    number(paper, b",\"kind\":", v.kind);
+// The request's numbers, and the answer's.
+fn numbers(paper: &mut Paper, v: Facts, answer: Answer) {
+    number(paper, ",\"a\":", v.a);
+    number(paper, ",\"b\":", v.b);
+    number(paper, ",\"c\":", v.c);
+    reply(paper, Reply::from(answer));
+    number(paper, ",\"z\":", v.z);
+}
+
+// An answer up to its text; whether the request was accepted, and whether it was only tried, among the rest.
+pub fn answer(teller: &mut Teller, line: u64, answer: Answer, tried: bool) {
+    let v = teller.facts;
+    let names = teller.pen.names;
+    let paper = &mut *teller.pen.paper;
+    number(paper, "{\"line\":", line);
+    number(paper, ",\"kind\":", v.kind);
     word(paper, v.kind);
-    numbers(paper, number_of_answer, v);
-    clash(paper, names, number_of_answer, v.y);
-    flags(paper, number_of_answer == 0, tried);
-    all_names(paper, names, number_of_answer, v);
-    opened(paper, b",\"text\":\"");
+    numbers(paper, v, answer);
+    clash(paper, names, answer);
+    flag(paper, ",\"accepted\":", answer.is_ok());
+    flag(paper, ",\"tried\":", tried);
+    all_names(teller.pen, v, answer);
+    opened(teller.pen.paper, ",\"text\":\"");
 }

@@ -7,12 +7,18 @@ mod conflict;
 mod faulty;
 mod found;
 mod json;
+mod kinds;
 mod refused;
 mod sentence;
 mod standing;
 mod wanted;
 
-use sentence::Facts;
+use answers::{Answer, Finding, Reply};
+use called::Pen;
+use labels::Sort;
+use output::Paper;
+use sentence::{Facts, Teller};
+use wanted::Place;
 
 // How an answer is told: as JSON or plainly, and whether the request was only tried.
 #[derive(Clone, Copy)]
@@ -22,201 +28,171 @@ pub struct How {
 }
 
 // The number of the line that is answered.
-fn at(paper: &mut [u8], line: u64) {
-    output::number(paper, line);
-    output::bytes(paper, b": ");
+fn at(paper: &mut Paper, line: u64) {
+    paper.number(line);
+    paper.text(": ");
 }
 
-// The number, x and y, plainly: what an answer and a finding both have ..
-fn numbers(paper: &mut [u8], reply: answers::Reply) {
-    output::number(paper, reply.number);
-    output::byte(paper, b' ');
-    output::number(paper, reply.x);
-    output::byte(paper, b' ');
-    output::number(paper, reply.y);
+// The number, x and y, plainly: what an answer and a finding both have.
+fn numbers(paper: &mut Paper, reply: Reply) {
+    paper.number(reply.number);
+    paper.byte(b' ');
+    paper.number(reply.x);
+    paper.byte(b' ');
+    paper.number(reply.y);
 }
 
-// .. and with them z, which a finding has not.
-fn numbers_of_answer(paper: &mut [u8], reply: answers::Reply) {
-    numbers(paper, reply);
-    output::byte(paper, b' ');
-    output::number(paper, reply.z);
-}
-
-// The sentence of an answer.
-fn sentence_of(paper: &mut [u8], names: &[u8], number: u64, v: Facts) {
-    match number {
-        0 => accepted::accepted(paper, names, v),
-        1..=11 => refused::refused(paper, names, number, v),
-        _ => conflict::conflict(paper, names, number, v),
-    }
-}
-
-// What is said before the sentence of a request that was only tried.
-fn tried(paper: &mut [u8], trial: bool) {
+// The sentence of an answer, with what is said before it where the request was only tried.
+fn sentence_of(teller: &mut Teller, answer: Answer, trial: bool) {
     if trial {
-        output::bytes(paper, b"tried, the book is as it was: ");
+        teller.tell("tried, the book is as it was: ");
+    }
+    match answer {
+        Ok(()) => accepted::accepted(teller),
+        Err(refusal) => refused::refused(teller, refusal),
     }
 }
 
-// The sentence, with what is said before it.
-fn whole_sentence(paper: &mut [u8], names: &[u8], number: u64, v: Facts, trial: bool) {
-    tried(paper, trial);
-    sentence_of(paper, names, number, v);
+fn answer_json(teller: &mut Teller, line: u64, answer: Answer, trial: bool) {
+    json::answer(teller, line, answer, trial);
+    sentence_of(teller, answer, trial);
+    json::closed(teller.pen.paper);
 }
 
-// The answer to the request on a line: its number, x, y and z, then what it means. A refusal has left the book as it was, so the book
-// tells how the person stood.
+// An answer has a z, which a finding has not.
+fn answer_plain(teller: &mut Teller, line: u64, answer: Answer, trial: bool) {
+    let reply = Reply::from(answer);
+    at(teller.pen.paper, line);
+    numbers(teller.pen.paper, reply);
+    teller.pen.paper.byte(b' ');
+    teller.pen.paper.number(reply.z);
+    teller.pen.paper.text("  ");
+    sentence_of(teller, answer, trial);
+    teller.pen.paper.byte(b'\n');
+}
+
+// The answer to the request on a line: its number, x, y and z, then what it means. The book is the one that the request left.
 pub fn answer(
-    paper: &mut [u8],
-    names: &[u8],
+    pen: &mut Pen,
     book: &[u64],
     line: u64,
     request: typed::Request,
-    answer: answers::Answer,
+    answer: Answer,
     how: How,
 ) {
-    let reply = answers::told(answer);
-    let v = Facts {
-        kind: request.kind,
-        a: request.a,
-        b: request.b,
-        c: request.c,
-        x: reply.x,
-        y: reply.y,
-        z: reply.z,
-        roles: standing::roles_of(book, request.c),
-        active: standing::active_of(book, request.c),
-    };
+    let facts = Facts::of(book, request, answer);
+    let mut teller = Teller { pen, facts };
     if how.json {
-        json::answer(paper, names, line, reply.number, v, how.trial);
-        whole_sentence(paper, names, reply.number, v, how.trial);
-        json::closed(paper);
+        answer_json(&mut teller, line, answer, how.trial);
     } else {
-        at(paper, line);
-        numbers_of_answer(paper, reply);
-        output::bytes(paper, b"  ");
-        whole_sentence(paper, names, reply.number, v, how.trial);
-        output::byte(paper, b'\n');
+        answer_plain(&mut teller, line, answer, how.trial);
     }
 }
 
 // What the audit found, behind what says when: for JSON the object is open and its first field is there.
-fn finding_json(paper: &mut [u8], reply: answers::Reply) {
-    output::bytes(paper, b",\"audit\":true");
-    json::reply(paper, reply.number, reply.x, reply.y);
-    json::opened(paper, b",\"text\":\"");
-    found::finding(paper, reply);
+fn finding_json(paper: &mut Paper, finding: Finding) {
+    paper.text(",\"audit\":true");
+    json::reply(paper, Reply::from(finding));
+    json::opened(paper, ",\"text\":\"");
+    found::finding(paper, finding);
     json::closed(paper);
 }
 
-fn finding_plain(paper: &mut [u8], reply: answers::Reply) {
-    numbers(paper, reply);
-    output::bytes(paper, b"  audit: ");
-    found::finding(paper, reply);
-    output::byte(paper, b'\n');
+fn finding_plain(paper: &mut Paper, finding: Finding) {
+    numbers(paper, Reply::from(finding));
+    paper.text("  audit: ");
+    found::finding(paper, finding);
+    paper.byte(b'\n');
 }
 
 // What the audit found that a line asked for ..
-pub fn finding(paper: &mut [u8], line: u64, finding: answers::Finding, how: How) {
-    let reply = answers::told_finding(finding);
+pub fn finding(paper: &mut Paper, line: u64, finding: Finding, how: How) {
     if how.json {
-        json::number(paper, b"{\"line\":", line);
-        finding_json(paper, reply);
+        json::number(paper, "{\"line\":", line);
+        finding_json(paper, finding);
     } else {
         at(paper, line);
-        finding_plain(paper, reply);
+        finding_plain(paper, finding);
     }
 }
 
 // .. and at the end of the shift.
-pub fn end(paper: &mut [u8], finding: answers::Finding, how: How) {
-    let reply = answers::told_finding(finding);
+pub fn end(paper: &mut Paper, finding: Finding, how: How) {
     if how.json {
-        output::bytes(paper, b"{\"end\":true");
-        finding_json(paper, reply);
+        paper.text("{\"end\":true");
+        finding_json(paper, finding);
     } else {
-        output::bytes(paper, b"end: ");
-        finding_plain(paper, reply);
+        paper.text("end: ");
+        finding_plain(paper, finding);
     }
 }
 
 // What is wrong with a line that is no request; the word concerned begins at `start`.
-pub fn fault(
-    paper: &mut [u8],
-    names: &[u8],
-    line: u64,
-    text: &[u8],
-    reason: typed::Reason,
-    start: usize,
-    how: How,
-) {
+pub fn fault(pen: &mut Pen, line: u64, text: &[u8], reason: typed::Reason, start: usize, how: How) {
+    let place = Place { line: text, start };
     if how.json {
-        json::number(paper, b"{\"line\":", line);
-        json::number(
-            paper,
-            b",\"fault\":true,\"place\":",
-            wanted::place(text, 0, start),
-        );
-        json::opened(paper, b",\"text\":\"");
-        faulty::fault(paper, names, text, reason, start);
-        json::closed(paper);
+        json::number(pen.paper, "{\"line\":", line);
+        json::number(pen.paper, ",\"fault\":true,\"place\":", place.number());
+        json::opened(pen.paper, ",\"text\":\"");
+        faulty::fault(pen, reason, place);
+        json::closed(pen.paper);
     } else {
-        at(paper, line);
-        faulty::fault(paper, names, text, reason, start);
-        output::byte(paper, b'\n');
+        at(pen.paper, line);
+        faulty::fault(pen, reason, place);
+        pen.paper.byte(b'\n');
     }
 }
 
-fn named_json(paper: &mut [u8], names: &[u8], line: u64, sort: u64, n: u64) {
-    json::number(paper, b"{\"line\":", line);
-    output::bytes(paper, b",\"sort\":\"");
-    called::sort(paper, sort);
-    json::number(paper, b"\",\"thing\":", n);
-    json::opened(paper, b",\"name\":\"");
-    called::name(paper, names, sort, n);
-    json::closed(paper);
+fn named_json(pen: &mut Pen, line: u64, sort: Sort, n: u64) {
+    json::number(pen.paper, "{\"line\":", line);
+    pen.paper.text(",\"sort\":\"");
+    pen.sort(sort);
+    json::number(pen.paper, "\",\"thing\":", n);
+    json::opened(pen.paper, ",\"name\":\"");
+    pen.name(sort, n);
+    json::closed(pen.paper);
 }
 
-fn named_plain(paper: &mut [u8], names: &[u8], line: u64, sort: u64, n: u64) {
-    at(paper, line);
-    called::sort(paper, sort);
-    output::byte(paper, b' ');
-    output::number(paper, n);
-    output::bytes(paper, b" is called ");
-    called::name(paper, names, sort, n);
-    output::byte(paper, b'\n');
+fn named_plain(pen: &mut Pen, line: u64, sort: Sort, n: u64) {
+    at(pen.paper, line);
+    pen.sort(sort);
+    pen.paper.byte(b' ');
+    pen.paper.number(n);
+    pen.paper.text(" is called ");
+    pen.name(sort, n);
+    pen.paper.byte(b'\n');
 }
 
 // What a thing is called from now on.
-pub fn named(paper: &mut [u8], names: &[u8], line: u64, sort: u64, n: u64, how: How) {
+pub fn named(pen: &mut Pen, line: u64, sort: Sort, n: u64, how: How) {
     if how.json {
-        named_json(paper, names, line, sort, n);
+        named_json(pen, line, sort, n);
     } else {
-        named_plain(paper, names, line, sort, n);
+        named_plain(pen, line, sort, n);
     }
 }
 
 // Begins a page that a line asked for, with the field that it is in JSON and its first line in plain text ..
-pub fn begin(paper: &mut [u8], line: u64, field: &[u8], title: &[u8], how: How) {
+pub fn begin(paper: &mut Paper, line: u64, field: &[u8], title: &[u8], how: How) {
     if how.json {
-        json::number(paper, b"{\"line\":", line);
-        json::opened(paper, field);
+        json::number(paper, "{\"line\":", line);
+        paper.bytes(field);
+        paper.quoted(true);
     } else {
         at(paper, line);
-        output::bytes(paper, title);
+        paper.bytes(title);
     }
 }
 
 // .. and ends it.
-pub fn close(paper: &mut [u8], how: How) {
+pub fn close(paper: &mut Paper, how: How) {
     if how.json {
         json::closed(paper);
     }
 }
 
 // The help ..
-pub fn help(paper: &mut [u8], line: u64, how: How) {
+pub fn help(paper: &mut Paper, line: u64, how: How) {
     begin(
         paper,
         line,
@@ -229,7 +205,7 @@ pub fn help(paper: &mut [u8], line: u64, how: How) {
 }
 
 // .. and the help on the word of a row.
-pub fn help_on(paper: &mut [u8], line: u64, row: u64, how: How) {
+pub fn help_on(paper: &mut Paper, line: u64, row: u64, how: How) {
     begin(paper, line, b",\"help\":\"", b"", how);
     manual::title(paper, row);
     manual::word(paper, row);

@@ -1,133 +1,133 @@
-// Which sort of thing a line wants at a place, and which kind of request it asks for.
+// Which sort of thing a line wants at a place, and which kind of request it asks for; and which things an answer names.
+use crate::kinds;
+use answers::{Answer, Refusal};
+use labels::Sort;
 
-// No sort: there is nothing, or a number that is no thing.
-const NO_SORT: u64 = 4;
-
-// The sort of an answer's x ..
-pub fn x_of(number: u64) -> u64 {
-    match number {
-        7 => labels::ORDER,
-        9 | 26 | 32 => labels::PERSON,
-        10 | 25 | 31 => labels::ROLE,
-        11 | 27..=28 | 33..=34 => labels::TASK,
-        _ => NO_SORT,
-    }
-}
-
-// .. of its y ..
-pub fn y_of(number: u64) -> u64 {
-    match number {
-        27..=28 | 33..=34 => labels::TASK,
-        _ => NO_SORT,
-    }
-}
-
-// .. and of its z.
-pub fn z_of(number: u64) -> u64 {
-    match number {
-        33..=34 => labels::ORDER,
-        _ => NO_SORT,
-    }
-}
-
-// Whether an answer's y is a mask of tasks.
-pub fn is_mask(number: u64) -> bool {
-    (number == 31) | (number == 32)
-}
-
-// The kind that a word names; 0 where it names none.
-fn kind_named(word: &[u8]) -> u64 {
-    let kind = vocabulary::kind_of(vocabulary::find(word));
-    if kind != 0 {
-        return kind;
-    }
-    match decimal::read(word) {
-        decimal::Number::Is(n) => n,
-        _ => 0,
-    }
-}
-
-// The kind that the word from `at` on names.
-fn kind_from(line: &[u8], at: usize) -> u64 {
-    let word = typed::next(line, at, true);
-    let start = word.start;
-    let end = word.end;
-    kind_named(&line[start..end])
-}
-
-// Whether the line begins with the word of a row.
-fn begins_with(line: &[u8], row: u64) -> bool {
-    let word = typed::next(line, 0, true);
-    let start = word.start;
-    let end = word.end;
-    vocabulary::find(&line[start..end]) == row
-}
-
-// Whether the line asks for help.
-pub fn is_help(line: &[u8]) -> bool {
-    begins_with(line, vocabulary::HELP)
-}
-
-// Where the request begins: behind `try`, where the line begins with that.
-fn request_from(line: &[u8]) -> usize {
-    if begins_with(line, vocabulary::TRY) {
-        typed::next(line, 0, true).end
-    } else {
-        0
-    }
-}
-
-// The kind of request that a line asks for or tries; 0 where it does neither.
-pub fn kind(line: &[u8]) -> u64 {
-    kind_from(line, request_from(line))
-}
-
-// The place, from 1 on, of the word that begins at `start`, counted from `from` on.
-pub fn place(line: &[u8], from: usize, start: usize) -> u64 {
-    let mut at = from;
-    let mut place: u64 = 1;
-    while place < typed::ROOM as u64 {
-        let word = typed::next(line, at, true);
-        if start <= word.start {
-            return place;
+// The sorts of the things that an answer's x, y and z name; Unused where one names nothing, or a number that is no thing.
+pub fn sorts_told(answer: Answer) -> [Sort; 3] {
+    let Err(refusal) = answer else {
+        return [Sort::Unused; 3];
+    };
+    match refusal {
+        Refusal::OrderOpen(_) => [Sort::Order, Sort::Unused, Sort::Unused],
+        Refusal::HasSubject(_) | Refusal::SubjectOwnsBoth(_) | Refusal::RoleAssignment(_, _) => {
+            [Sort::Person, Sort::Unused, Sort::Unused]
         }
-        at = word.end;
-        place += 1;
+        Refusal::HasRole(_) | Refusal::RoleOwnsBoth(_) | Refusal::TaskAssignment(_, _) => {
+            [Sort::Role, Sort::Unused, Sort::Unused]
+        }
+        Refusal::TaskNotOwned(_) => [Sort::Task, Sort::Unused, Sort::Unused],
+        Refusal::SmeBetween(_, _) | Refusal::DmeBetween(_, _) => {
+            [Sort::Task, Sort::Task, Sort::Unused]
+        }
+        Refusal::HoldsSme(_, _, _) | Refusal::HoldsDme(_, _, _) => {
+            [Sort::Task, Sort::Task, Sort::Order]
+        }
+        _ => [Sort::Unused; 3],
     }
-    place
 }
 
-// The sort that stands as the second word of a line that shows or names.
-fn sort_said(line: &[u8]) -> u64 {
-    let word = typed::next(line, 0, true);
-    let sort = typed::next(line, word.end, true);
-    let start = sort.start;
-    let end = sort.end;
-    typed::sort_of(&line[start..end])
+// The tasks that somebody who gains one owns already and that exclude it, as a mask, where the answer tells them.
+pub fn clashing(answer: Answer) -> Option<u64> {
+    match answer {
+        Err(Refusal::TaskAssignment(_, tasks) | Refusal::RoleAssignment(_, tasks)) => Some(tasks),
+        _ => None,
+    }
 }
 
-// The sort that a kind wants at a place of the request; an order's tasks may go on and on.
-fn sort_in(kind: u64, place: u64) -> u64 {
-    match place {
-        2 => typed::first_of(kind),
-        3 => typed::second_of(kind),
-        4 => {
-            if kind == 12 {
-                labels::TASK
-            } else {
-                typed::third_of(kind)
+// A place in a line: where a word begins.
+#[derive(Clone, Copy)]
+pub struct Place<'l> {
+    pub line: &'l [u8],
+    pub start: usize,
+}
+
+impl<'l> Place<'l> {
+    // The word there.
+    pub fn word(self) -> &'l [u8] {
+        let word = typed::next(self.line, self.start, true);
+        &self.line[word.start..word.end]
+    }
+
+    // The place behind the word there.
+    fn behind(self) -> Place<'l> {
+        Place {
+            start: typed::next(self.line, self.start, true).end,
+            ..self
+        }
+    }
+
+    // The first place of the line.
+    fn first(self) -> Place<'l> {
+        Place { start: 0, ..self }
+    }
+
+    // Whether the line begins with the word of a row.
+    fn line_begins_with(self, row: u64) -> bool {
+        vocabulary::find(self.first().word()) == Some(row)
+    }
+
+    // Whether the line asks for help.
+    pub fn is_in_help(self) -> bool {
+        self.line_begins_with(vocabulary::HELP)
+    }
+
+    // Where the request begins: behind `try`, where the line begins with that.
+    fn request(self) -> Place<'l> {
+        if self.line_begins_with(vocabulary::TRY) {
+            self.first().behind()
+        } else {
+            self.first()
+        }
+    }
+
+    // The kind of request that the line asks for or tries, if it does either.
+    pub fn kind(self) -> Option<u64> {
+        kind_named(self.request().word())
+    }
+
+    // Which word of the line it is, from 1 on ..
+    pub fn number(self) -> u64 {
+        self.number_from(self.first())
+    }
+
+    // .. counted from another place on.
+    fn number_from(self, from: Place) -> u64 {
+        let mut at = from.start;
+        for number in 1..typed::ROOM as u64 {
+            let word = typed::next(self.line, at, true);
+            if self.start <= word.start {
+                return number;
             }
+            at = word.end;
         }
-        _ => labels::TASK,
+        typed::ROOM as u64
+    }
+
+    // The sort of the thing that is wanted there, if one is: by the kind of the request, or as it stands behind `show` or `name`.
+    pub fn sort(self) -> Option<Sort> {
+        match self.kind() {
+            Some(kind) => Some(sort_in(kind, self.number_from(self.request()))),
+            None => typed::sort_of(self.first().behind().word()),
+        }
     }
 }
 
-// The sort of the thing that is wanted where a word of the line begins.
-pub fn sort(line: &[u8], start: usize) -> u64 {
-    let from = request_from(line);
-    let kind = kind_from(line, from);
-    if kind == 0 {
-        return sort_said(line);
+// The kind that a word names, if it names one: 0 is none.
+fn kind_named(word: &[u8]) -> Option<u64> {
+    vocabulary::find(word)
+        .and_then(vocabulary::kind_of)
+        .or_else(|| decimal::read(word).ok())
+        .filter(|kind| *kind != 0)
+}
+
+// The sort that a kind wants as a word of the request: an order's tasks may go on and on.
+fn sort_in(kind: u64, number: u64) -> Sort {
+    let typed::Takes(a, b, c) = typed::wanted(kind);
+    match number {
+        2 => a,
+        3 => b,
+        4 if kind != kinds::OPEN => c,
+        _ => Sort::Task,
     }
-    sort_in(kind, place(line, from, start))
 }

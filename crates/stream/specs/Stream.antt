@@ -6,13 +6,13 @@
 --     a            the audit
 --
 -- The fields of a line stand between its spaces. The first is the name, of one byte; each other one is a number.
-use Rattle.std.specs.Prelude.{◌≡◌, Bool, true, false, List, [], ◌∷◌, ℕ, ◌+◌, ◌-◌, ◌≤◌, leb, ltb, eqb, length, take, drop}
+use Rattle.std.specs.Prelude.{◌≡◌, Bool, true, false, List, [], ◌∷◌, ℕ, leb, ltb, eqb, Option, None, Some, Result, Ok, Err}
+use Rattle.std.specs.Borrow.{Bor}
 use Rattle.decimal.specs.Decimal.{number_of}
-use Rattle.decimal.specs.declared.Number.{Number}
-use Rattle.decimal.specs.declared.Number.TheVariants.{Is, TooLarge, NotDecimal}
+use Rattle.decimal.specs.declared.Unread.{Unread}
+use Rattle.decimal.specs.declared.Unread.TheVariants.{NotDecimal}
 use Rattle.stream.specs.declared.Command.{Command}
 use Rattle.stream.specs.declared.Command.TheVariants.{New, Word, Request, Audit, Other}
-use Rattle.stream.specs.declared.Field.{Field}
 
 -- a field is the bytes between two spaces
 abbrev pub Fields : Type 0
@@ -23,14 +23,18 @@ unfoldable pub longer : ℕ → Fields → Fields
 longer b [] = (b ∷ []) ∷ []
 longer b (f ∷ fs) = (b ∷ f) ∷ fs
 
+-- the byte is a space
+abbrev pub is_space : ℕ → Bool
+is_space b = eqb b 32
+
 -- the fields of a line: a space parts two of them
 unfoldable pub fields_of : List ℕ → Fields
 fields_of [] = [] ∷ []
-fields_of (b ∷ l) = elim (eqb b 32) [ true ↦ [] ∷ fields_of l | false ↦ longer b (fields_of l) ]
+fields_of (b ∷ l) = elim (is_space b) [ true ↦ [] ∷ fields_of l | false ↦ longer b (fields_of l) ]
 
 -- the number that a field writes; none where the field is empty
-unfoldable pub number_in : List ℕ → Number
-number_in [] = NotDecimal
+unfoldable pub number_in : List ℕ → Result ℕ Unread
+number_in [] = Err NotDecimal
 number_in (b ∷ l) = number_of (b ∷ l)
 
 -- what a command is, when it goes on with a number and more fields
@@ -40,7 +44,7 @@ Further = ℕ → Fields → Command
 -- the next field writes a number of 64 bits, and the command goes on with it and the fields behind
 unfoldable pub with_number : Fields → Further → Command
 with_number [] further = Other
-with_number (f ∷ fs) further = elim (number_in f) [ Is v ↦ further v fs | TooLarge ↦ Other | NotDecimal ↦ Other ]
+with_number (f ∷ fs) further = elim (number_in f) [ Ok v ↦ further v fs | Err e ↦ Other ]
 
 -- there is no field more, and the command is c
 unfoldable pub ended : Fields → Command → Command
@@ -88,20 +92,15 @@ unfoldable pub command_of : List ℕ → Bool → ℕ → Command
 command_of line true length = command_in (fields_of line) length
 command_of line false length = Other
 
--- the fields behind the space at `at`; none where the line ends there
-unfoldable pub fields_past : List ℕ → ℕ → Fields
-fields_past line at = elim (ltb at (length line)) [ true ↦ fields_of (drop (at + 1) line) | false ↦ [] ]
+-- the fields behind the space that the rest of a line begins with; none where the line has ended
+unfoldable pub fields_behind : List ℕ → Fields
+fields_behind [] = []
+fields_behind (space ∷ l) = fields_of l
 
--- the bytes of the line from `from` to before `end`
-abbrev pub part : ℕ → ℕ → List ℕ → List ℕ
-part from end line = take (end - from) (drop from line)
+-- the code read the number of the first of `fs`, and those behind it are behind what it left; or that is no number, and it read none
+unfoldable pub goes_on : Option (ℕ × Bor (List ℕ)) → Further → Command
+goes_on None further = Other
+goes_on (Some (v, rest)) further = further v (fields_behind rest.now)
 
--- the field that starts at `from` ends before `end`, where a space stands or the line ends
-pub record Ends (line : List ℕ) (from end : ℕ) : Type 0 where
-  pub starts : from ≤ end
-  pub within : end ≤ length line
-  pub fields : fields_of (drop from line) ≡ part from end line ∷ fields_past line end
-
--- the code's field f writes the number of the first of `fs`, and those behind it follow where it ends
-abbrev pub Starts : Fields → List ℕ → Field → Type 0
-Starts fs line f = (further : Further) → with_number fs further ≡ given f.is (further f.value (fields_past line f.end))
+abbrev pub Starts : Fields → Option (ℕ × Bor (List ℕ)) → Type 0
+Starts fs read = (further : Further) → with_number fs further ≡ goes_on read further

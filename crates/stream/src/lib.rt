@@ -9,14 +9,16 @@
 // and `read` is proved to give what that gives.
 #![tactic(auto)]
 
-ghost use Rattle.std.specs.Prelude.{◌≡◌, ◌≤◌, length};
-ghost use Rattle.stream.specs.Stream.{fields_past, new_book, set_word, request, ended, named, command_of, Ends, Starts};
-ghost use Rattle.stream.specs.declared.Command.TheVariants.{Audit};
+ghost use Rattle.std.specs.Prelude.{◌≡◌, ◌≤◌, ◌==◌, ◌||◌, length, slice_index, unwrap_or};
+ghost use Rattle.std.specs.List.{position};
+ghost use Rattle.stream.specs.Stream.{is_space, fields_behind, new_book, set_word, request, named, command_of, Starts};
+ghost use Rattle.stream.specs.declared.Command.TheVariants.{Audit, Other};
 
 // The longest book.
 pub const LONGEST: usize = 4700;
 
 // What a line says.
+// Stays: no command is one of its cases, since `read` promises `command_of`, a definition that the examiner reads and that has it so.
 #[derive(Clone, Copy)]
 pub enum Command {
     New(usize),
@@ -26,128 +28,82 @@ pub enum Command {
     Other,
 }
 
-// What was read of a field: whether it writes a number, which, and where the field ends.
-#[derive(Drop)]
-struct Field {
-    is: bool,
-    value: u64,
-    end: usize,
+// Where the next space stands, if there is one.
+fn next_space(rest: &[u8]) -> Option<usize>
+    ensures { result ≡ position is_space rest.now }
+{
+    rest.iter().position(|b| *b == b' ')
 }
 
-// Where the field that starts at `from` ends: before the next space, or with the line.
-fn field_end(line: &[u8], from: usize) -> usize
-    requires { from ≤ length line.now }
-    ensures { Ends line.now from result }
+// How many bytes of the rest of a line are its first field: those before the next space, or all.
+fn field_len(rest: &[u8]) -> usize
+    ensures value { result ≡ unwrap_or (position is_space rest.now) (length rest.now) }
+    ensures within { result ≤ length rest.now }
 {
-    let mut i = from;
-    while i < line.len() {
-        if line[i] == b' ' {
-            return i;
-        }
-        i += 1;
-    }
-    i
+    next_space(rest).unwrap_or(rest.len())
 }
 
-// The number in the field behind the space at `at`; there is none where the line ends there.
-fn number(line: &[u8], at: usize) -> Field
-    ensures { Starts (fields_past line.now at) line.now result }
+// The number in the field behind the space that `rest` begins with, and what is left behind that field. There is none where the line has ended.
+fn number(rest: &[u8]) -> Option<(u64, &[u8])>
+    ensures { Starts (fields_behind rest.now) result }
 {
-    if line.len() <= at {
-        return Field {
-            is: false,
-            value: 0,
-            end: at,
-        };
+    let (_, fields) = rest.split_first()?;
+    let (field, left) = fields.split_at(field_len(fields));
+    if field.is_empty() {
+        return None;
     }
-    let start = at + 1;
-    let end = field_end(line, start);
-    if start == end {
-        return Field {
-            is: false,
-            value: 0,
-            end,
-        };
-    }
-    match decimal::read(&line[start..end]) {
-        decimal::Number::Is(value) => Field {
-            is: true,
-            value,
-            end,
-        },
-        decimal::Number::TooLarge => Field {
-            is: false,
-            value: 0,
-            end,
-        },
-        decimal::Number::NotDecimal => Field {
-            is: false,
-            value: 0,
-            end,
-        },
-    }
+    let n = decimal::read(field).ok()?;
+    Some((n, left))
 }
 
 // A new book, of as many words as the one number says.
-fn new_book(line: &[u8]) -> Command
-    ensures { result ≡ new_book (fields_past line.now 1) }
+fn new_book(rest: &[u8]) -> Option<Command>
+    ensures { unwrap_or result Other ≡ new_book (fields_behind rest.now) }
 {
-    let size = number(line, 1);
-    let words = size.value as usize;
-    if size.is & (line.len() <= size.end) & (words <= LONGEST) {
-        return Command::New(words);
-    }
-    Command::Other
+    let (size, rest) = number(rest)?;
+    let words = size as usize;
+    (rest.is_empty() & (words <= LONGEST)).then_some(Command::New(words))
 }
 
 // A word of the book and its value.
-fn set_word(line: &[u8], length: usize) -> Command
-    ensures { result ≡ set_word (fields_past line.now 1) length }
+fn set_word(rest: &[u8], length: usize) -> Option<Command>
+    ensures { unwrap_or result Other ≡ set_word (fields_behind rest.now) length }
 {
-    let place = number(line, 1);
-    let value = number(line, place.end);
-    let i = place.value as usize;
-    if place.is & value.is & (line.len() <= value.end) & (i < length) {
-        return Command::Word(i, value.value);
-    }
-    Command::Other
+    let (place, rest) = number(rest)?;
+    let (value, rest) = number(rest)?;
+    let i = place as usize;
+    (rest.is_empty() & (i < length)).then_some(Command::Word(i, value))
 }
 
 // A request: its kind and its three numbers.
-fn request(line: &[u8]) -> Command
-    ensures { result ≡ request (fields_past line.now 1) }
+fn request(rest: &[u8]) -> Option<Command>
+    ensures { unwrap_or result Other ≡ request (fields_behind rest.now) }
 {
-    let kind = number(line, 1);
-    let a = number(line, kind.end);
-    let b = number(line, a.end);
-    let c = number(line, b.end);
-    if kind.is & a.is & b.is & c.is & (line.len() <= c.end) {
-        return Command::Request(kind.value, a.value, b.value, c.value);
-    }
-    Command::Other
+    let (kind, rest) = number(rest)?;
+    let (a, rest) = number(rest)?;
+    let (b, rest) = number(rest)?;
+    let (c, rest) = number(rest)?;
+    rest.is_empty().then_some(Command::Request(kind, a, b, c))
 }
 
-// The audit, which has no numbers.
-fn audit(line: &[u8]) -> Command
-    ensures { result ≡ ended (fields_past line.now 1) Audit }
-{
-    if line.len() <= 1 {
-        return Command::Audit;
-    }
-    Command::Other
-}
-
-// The command of that name; its fields stand behind the space at 1.
-fn named(line: &[u8], name: u8, length: usize) -> Command
-    ensures { result ≡ named name (fields_past line.now 1) length }
+// The command of that name; `rest` is the line behind it.
+fn named(name: u8, rest: &[u8], length: usize) -> Option<Command>
+    ensures { unwrap_or result Other ≡ named name (fields_behind rest.now) length }
 {
     match name {
-        b'n' => new_book(line),
-        b'w' => set_word(line, length),
-        b'r' => request(line),
-        b'a' => audit(line),
-        _ => Command::Other,
+        b'n' => new_book(rest),
+        b'w' => set_word(rest, length),
+        b'r' => request(rest),
+        b'a' => rest.is_empty().then_some(Command::Audit),
+        _ => None,
     }
+}
+
+// Whether a space parts the rest of a line from its first byte, or nothing is left.
+fn is_parted(rest: &[u8]) -> bool
+    ensures { result ≡ (length rest.now == 0) || is_space (slice_index rest.now 0) }
+{
+    rest.is_empty() || rest[0] == b' '
 }
 
 // What the line says to a book of `length` words; it is not whole where it went on past the last byte here.
@@ -157,14 +113,11 @@ pub fn read(line: &[u8], whole: bool, length: usize) -> Command
     if !whole {
         return Command::Other;
     }
-    if line.len() == 0 {
+    let Some((name, rest)) = line.split_first() else {
+        return Command::Other;
+    };
+    if !is_parted(rest) {
         return Command::Other;
     }
-    if line.len() == 1 {
-        return named(line, line[0], length);
-    }
-    if line[1] != b' ' {
-        return Command::Other;
-    }
-    named(line, line[0], length)
+    named(*name, rest, length).unwrap_or(Command::Other)
 }

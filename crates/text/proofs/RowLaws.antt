@@ -1,15 +1,50 @@
 -- Laws of rows: what a byte of a slice says of a letter, and the steps by which loops test a row and search the rows.
-use mathlib.Core.Path.{◌≡◌, refl, sym, ap, ◌∙◌}
-use mathlib.Core.Bool.{true, false}
+use mathlib.Core.Path.{◌≡◌, refl, sym, ap, ap₂, ◌∙◌, subst}
+use mathlib.Core.Bool.{Bool, true, false, ◌&&◌}
+use lib.Dec.{leb, eqb}
 use mathlib.Core.List.{List, [], ◌∷◌, ◌++◌}
-use Prim.Native.Nat.{ℕ, zero, suc, ◌+◌, ◌*◌, ◌-◌, ◌≤◌, ◌<◌}
-use native.Mathlib.Nat.{le_of_suc-le-suc, mul-le-mul_right, add-sub_of_le}
+use Prim.Native.Nat.{ℕ, zero, suc, ◌+◌, ◌-◌, ◌≤◌, ◌<◌}
+use native.Mathlib.Nat.{le_of_suc-le-suc, add-sub_of_le}
 use native.Mathlib.Omega.{arith}
 use lib.ListN.{length, get_or, replicate, length-append, length-replicate, get_or-eq_default}
-use borrow.Author.Tests.{eq-eqb, ne_eqb, le-leb, lt-leb}
+use borrow.Author.Tests.{le-leb}
 use Rattle.sets.specs.Search.{lowest_from}
-use Rattle.sets.proofs.SearchLaws.{all_on, all_fails, search_rest}
-use Rattle.text.specs.Rows.{letter_at, filled, same_letters, is_row, find_row}
+use native.Mathlib.Decide.{dec_lt}
+use Rattle.std.proofs.Common.{Option, Some, None}
+use Rattle.std.specs.Option.{MatchOption, SomeIff}
+use Rattle.std.specs.List.{list_all, range_with_len}
+use Rattle.sets.specs.Search.{all}
+use Rattle.sets.proofs.Logic.{and_in, and_out, not_both, refute}
+use Rattle.sets.proofs.SearchLaws.{all_in, all_out, lowest_is, lowest_end}
+use Rattle.text.specs.Rows.{letter_at, filled, same_letters, is_row}
+
+-- A test of the numbers from i on, n of them, one by one: where all pass, and that all pass.
+all_listed : (n i : ℕ) (f : ℕ → Bool) → ((k : ℕ) → i ≤ k → k < i + n → f k ≡ true) → list_all f (range_with_len i n) ≡ true
+all_listed zero i f h = refl
+all_listed (suc n) i f h = and_in (h i (omega arith) (omega arith)) (all_listed n (i + 1) f (λ k l m. h k (omega arith) (omega arith)))
+
+listed_all : (n i : ℕ) (f : ℕ → Bool) → list_all f (range_with_len i n) ≡ true → (k : ℕ) → i ≤ k → k < i + n → f k ≡ true
+listed_all zero i f e k l m = absurd (omega arith)
+listed_all (suc n) i f e k l m = go (dec_lt i k) (λ h. listed_all n (i + 1) f (and_out _ _ e).1 k h (omega arith))
+  where
+    go : Dec (i < k) → (i + 1 ≤ k → f k ≡ true) → f k ≡ true
+    go (yes d) rec = rec (omega arith)
+    go (no d) rec = let s : i ≡ k = omega arith in subst (λ (x : ℕ). f x ≡ true) s (and_out _ _ e).0
+
+-- So the test of a range tests all numbers below its end.
+pub all_range : (n : ℕ) (f : ℕ → Bool) → list_all f (range_with_len 0 n) ≡ all n f
+all_range n f = go (all n f) refl
+  where
+    go : (t : Bool) → all n f ≡ t → list_all f (range_with_len 0 n) ≡ all n f
+    go true e = all_listed n 0 f (λ k l m. all_out n f e k (omega arith)) ∙ sym e
+    go false e = refute _ (λ p. not_both (all n f) (all_in n f (λ i h. listed_all n 0 f p i (omega arith) (omega arith))) e) ∙ sym e
+
+-- A search over a range gives the lowest that passes, if one does.
+pub find_range : (n : ℕ) (f : ℕ → Bool) (r : Option ℕ)
+    → MatchOption r ((k : ℕ) → 0 ≤ k → k < n → f k ≡ false) (λ i. (0 ≤ i) × (i < n) × (f i ≡ true) × ((k : ℕ) → 0 ≤ k → k < i → f k ≡ false))
+    → SomeIff r (lowest_from n 0 f < n) (lowest_from n 0 f)
+find_range n f None h = λ l. omega (arith, lowest_end n f (λ k m. h k (omega arith) m))
+find_range n f (Some i) h = let e : lowest_from n 0 f ≡ i = lowest_is n 0 f i h.0 (omega arith) h.2 h.3 in (omega arith, sym e)
 
 -- Within the bytes it does not matter what is said to stand behind them.
 pub letter_in : (l : List ℕ) (i : ℕ) → i < length l → get_or l i 0 ≡ letter_at l i
@@ -23,44 +58,25 @@ pub letter_out : (l : List ℕ) (i : ℕ) → length l ≤ i → 32 ≡ letter_a
 unfolding letter_at
 letter_out l i h = sym (get_or-eq_default l 32 h)
 
-module _ (rows word : List ℕ) (start i a b : ℕ) (at_row : a ≡ letter_at rows (start + i)) (at-word : b ≡ letter_at word i) where
-  -- The same letter at i: on with i + 1.
-  pub same_on : same_letters rows start i word ≡ true → a ≡ b → same_letters rows start (i + 1) word ≡ true
-  unfolding same_letters
-  same_on e s = all_on _ e (eq-eqb _ _ (sym at_row ∙ s ∙ at-word))
-
-  -- Another letter at i: the row is another.
-  pub same_fails : (width : ℕ) → i < width → (a ≡ b → ⊥) → false ≡ same_letters rows start width word
-  unfolding same_letters
-  same_fails width h s = sym (all_fails _ width h (ne_eqb _ _ (λ e. s (at_row ∙ e ∙ sym at-word))))
-
--- All letters are seen.
-pub same_done : (rows : List ℕ) (start i width : ℕ) (word : List ℕ) → i ≡ width → same_letters rows start i word ≡ true
-    → true ≡ same_letters rows start width word
-same_done rows start i width word h e = sym e ∙ ap (λ (n : ℕ). same_letters rows start n word) h
-
--- A word that is longer than the row is not in it.
-pub row_long : (rows : List ℕ) (start width : ℕ) (word : List ℕ) → width < length word → false ≡ is_row rows start width word
-unfolding is_row
-row_long rows start width word h = rw (lt-leb (length word) width h)
-
--- Else the letters decide.
+-- Of a word that is no longer than the row the letters decide.
 pub row_fits : (rows : List ℕ) (start width : ℕ) (word : List ℕ) → length word ≤ width
     → same_letters rows start width word ≡ is_row rows start width word
 unfolding is_row
 row_fits rows start width word h = rw (le-leb (length word) width h)
 
--- Row n of count rows ends within them.
-pub row_within : (n count width : ℕ) → n < count → n * width + width ≤ count * width
-row_within n count width h = omega (arith, mul-le-mul_right width h)
+-- Two tests that agree below n pass together.
+all_same : (n : ℕ) (f g : ℕ → Bool) → ((i : ℕ) → i < n → f i ≡ g i) → all n f ≡ all n g
+unfolding all
+all_same zero f g same = refl
+all_same (suc n) f g same =
+    ap₂ (λ (s t : Bool). elim s as (λ (x : Bool). Bool) [ true ↦ t | false ↦ false ]) (all_same n f g (λ i h. same i (omega arith))) (same n (omega arith))
 
--- The search begins with all rows before it.
-pub find_begins : (rows : List ℕ) (first count width : ℕ) (word : List ℕ)
-    → search_rest (λ (k : ℕ). is_row rows (first + k * width) width word) 0 count ≡ find_row rows first count width word
-unfolding find_row
-find_begins rows first count width word =
-    let whole : count - 0 ≡ count = omega arith in
-    ap (λ (n : ℕ). lowest_from n 0 (λ (k : ℕ). is_row rows (first + k * width) width word)) whole
+-- Where the letters of two rows are the same, so is what the rows are.
+pub rows_same : (l r : List ℕ) (start from width : ℕ) (word : List ℕ) → ((i : ℕ) → i < width → letter_at l (start + i) ≡ letter_at r (from + i))
+    → is_row l start width word ≡ is_row r from width word
+unfolding is_row same_letters
+rows_same l r start from width word same =
+    ap (λ (t : Bool). leb (length word) width && t) (all_same width _ _ (λ i h. ap (λ (x : ℕ). eqb x (letter_at word i)) (same i h)))
 
 -- Every letter of blanks is a blank.
 blanks_blank : (k i : ℕ) → ◌≡◌ {A = ℕ} (get_or (replicate k 32) i 32) 32

@@ -2,13 +2,14 @@
 #![tactic(auto)]
 
 ghost use Rattle.std.specs.Prelude.{◌≡◌, ◌+◌, ◌*◌, ◌<◌};
+ghost use Rattle.std.specs.Option.{SomeIff};
 ghost use Rattle.text.specs.Rows.{letter_at, same_letters, is_row, find_row};
 
 // Byte i; a blank behind the end.
 pub fn letter(bytes: &[u8], i: usize) -> u8
     ensures { result ≡ letter_at bytes.now i }
 {
-    if i < bytes.len() { bytes[i] } else { b' ' }
+    bytes.get(i).copied().unwrap_or(b' ')
 }
 
 // Whether the row from `start` on begins with these letters, and has blanks behind them.
@@ -16,12 +17,7 @@ fn same_letters(rows: &[u8], start: usize, width: usize, word: &[u8]) -> bool
     requires { start + width < 65536 }
     ensures { result ≡ same_letters rows.now start width word.now }
 {
-    for i in 0..width {
-        if letter(rows, start + i) != letter(word, i) {
-            return false;
-        }
-    }
-    true
+    (0..width).all(|i| letter(rows, start + i) == letter(word, i))
 }
 
 // Whether the row from `start` on is the word, which is then no longer than the row.
@@ -29,21 +25,13 @@ pub fn is_row(rows: &[u8], start: usize, width: usize, word: &[u8]) -> bool
     requires { start + width < 65536 }
     ensures { result ≡ is_row rows.now start width word.now }
 {
-    if width < word.len() {
-        return false;
-    }
-    same_letters(rows, start, width, word)
+    word.len() <= width && same_letters(rows, start, width, word)
 }
 
-// The lowest of the rows from `first` on that is the word; `count` where none is.
-pub fn find_row(rows: &[u8], first: usize, count: u64, width: usize, word: &[u8]) -> u64
+// The lowest of the rows from `first` on that is the word, if one is.
+pub fn find_row(rows: &[u8], first: usize, count: u64, width: usize, word: &[u8]) -> Option<u64>
     requires { first + count * width < 65536 }
-    ensures { result ≡ find_row rows.now first count width word.now }
+    ensures { SomeIff result (find_row rows.now first count width word.now < count) (find_row rows.now first count width word.now) }
 {
-    for n in 0..count {
-        if is_row(rows, first + (n as usize) * width, width, word) {
-            return n;
-        }
-    }
-    count
+    (0..count).find(|n| is_row(rows, first + *n as usize * width, width, word))
 }

@@ -9,6 +9,7 @@ ghost use Rattle.towerplank.specs.Told.{listed, Told, ToldAudit};
 use answers::Reply;
 
 // A reply in the four words that a controller reads.
+// Stays: the C interface lends four words, and no From of Reply would be plainer than this one line.
 fn put(answer: &mut [u64; 4], reply: Reply)
     ensures { answer.new ≡ listed reply }
 {
@@ -26,7 +27,7 @@ pub fn towerplank_request(
 )
     ensures { Told book.old book.new (ask kind a b c) answer.new }
 {
-    let reply = answers::told(desk::request(book, kind, a, b, c));
+    let reply = Reply::from(desk::request(book, kind, a, b, c));
     put(answer, reply);
 }
 
@@ -34,6 +35,6 @@ pub fn towerplank_request(
 pub fn towerplank_audit(book: &[u64], answer: &mut [u64; 4])
     ensures { ToldAudit book.now answer.new }
 {
-    let reply = answers::told_finding(audit::audit(book));
+    let reply = Reply::from(audit::audit(book));
     put(answer, reply);
 }

@@ -3,39 +3,38 @@
 #![tactic(auto)]
 
 ghost use Rattle.std.specs.Prelude.{◌≡◌, ℕ, ◌<◌, get_or};
-ghost use Rattle.rules.specs.Book.{table_count, SB, RB};
+ghost use Rattle.rules.specs.Book.{SB, RB};
 ghost use Rattle.sets.specs.Mask.{joined};
 ghost use Rattle.chains.specs.Closure.{close};
 ghost use Rattle.rules.specs.Trade.{subject, mixed, below, reach, owns_role, owned_tasks, subject_group, role_group};
-ghost use Rattle.book.specs.Slice.{words, tables, Full};
+ghost use Rattle.book.specs.Tables.{number};
+ghost use Rattle.book.specs.Slice.{words, tables};
 ghost use Rattle.trade.specs.Spread.{Enough};
 
+use book::Table;
+
 // Row r of two tables mixed.
-pub fn mixed_row(book: &[u64], first: u64, second: u64, r: u64) -> u64
-    requires { Full book.now × (first < table_count) × (second < table_count) × (r < 64) }
-    ensures { result ≡ mixed (tables book.now) first second r }
+pub fn mixed_row(book: &book::Words, first: Table, second: Table, r: u64) -> u64
+    requires { r < 64 }
+    ensures { result ≡ mixed (tables book.now) (number first) (number second) r }
 {
     book::row(book, first, r) | book::row(book, second, r)
 }
 
 // The mixed rows of all members of the set, joined.
-pub fn joined_rows(book: &[u64], first: u64, second: u64, set: u64) -> u64
-    requires { Full book.now × (first < table_count) × (second < table_count) }
-    ensures { result ≡ joined 64 (mixed (tables book.now) first second) set }
+pub fn joined_rows(book: &book::Words, first: Table, second: Table, set: u64) -> u64
+    ensures { result ≡ joined 64 (mixed (tables book.now) (number first) (number second)) set }
 {
     let mut out = 0;
-    let mut left = set;
-    while left != 0 {
-        out = out | mixed_row(book, first, second, sets::lowest(left));
-        left = sets::rest(left);
+    for r in sets::each(set) {
+        out |= mixed_row(book, first, second, r);
     }
     out
 }
 
 // All rows of two tables mixed, side by side.
-fn mixed_rows(book: &[u64], first: u64, second: u64) -> [u64; 64]
-    requires { Full book.now × (first < table_count) × (second < table_count) }
-    ensures { (k : ℕ) → k < 64 → get_or result k 0 ≡ mixed (tables book.now) first second k }
+fn mixed_rows(book: &book::Words, first: Table, second: Table) -> [u64; 64]
+    ensures { (k : ℕ) → k < 64 → get_or result k 0 ≡ mixed (tables book.now) (number first) (number second) k }
 {
     let mut rows = [0u64; 64];
     for r in 0..64 {
@@ -49,10 +48,8 @@ fn joined_of(rows: &[u64; 64], set: u64) -> u64
     ensures { result ≡ joined 64 (words rows.now) set }
 {
     let mut out = 0;
-    let mut left = set;
-    while left != 0 {
-        out = out | rows[sets::lowest(left) as usize];
-        left = sets::rest(left);
+    for r in sets::each(set) {
+        out |= rows[r as usize];
     }
     out
 }
@@ -74,9 +71,9 @@ fn widened(rows: &[u64; 64], set: u64, fresh: u64, steps: u64) -> u64
 }
 
 // The same along the mixed rows of the book. Most sets are closed by now; only where they aren't are the rows laid side by side.
-fn grown(book: &[u64], first: u64, second: u64, set: u64, fresh: u64, steps: u64) -> u64
-    requires { Full book.now × (first < table_count) × (second < table_count) × Enough (mixed (tables book.now) first second) set fresh }
-    ensures { result ≡ close steps (mixed (tables book.now) first second) set }
+fn grown(book: &book::Words, first: Table, second: Table, set: u64, fresh: u64, steps: u64) -> u64
+    requires { Enough (mixed (tables book.now) (number first) (number second)) set fresh }
+    ensures { result ≡ close steps (mixed (tables book.now) (number first) (number second)) set }
 {
     if steps == 0 {
         return set;
@@ -90,9 +87,10 @@ fn grown(book: &[u64], first: u64, second: u64, set: u64, fresh: u64, steps: u64
 }
 
 // The set and all that chains along the mixed rows lead to from it, in so many steps at most: the first step, from all its members.
-pub fn spread(book: &[u64], first: u64, second: u64, set: u64, steps: u64) -> u64
-    requires { Full book.now × (first < table_count) × (second < table_count) }
-    ensures { result ≡ close steps (mixed (tables book.now) first second) set }
+// In one place in the machine code, for whatever tables: made apart for each pair of them it would call memcpy, which the header rules out.
+#[inline(never)]
+pub fn spread(book: &book::Words, first: Table, second: Table, set: u64, steps: u64) -> u64
+    ensures { result ≡ close steps (mixed (tables book.now) (number first) (number second)) set }
 {
     if steps == 0 {
         return set;
@@ -105,57 +103,54 @@ pub fn spread(book: &[u64], first: u64, second: u64, set: u64, steps: u64) -> u6
 }
 
 // The roles of the set and all roles that they reach.
-pub fn below(book: &[u64], set: u64) -> u64
-    requires { Full book.now }
+pub fn below(book: &book::Words, set: u64) -> u64
     ensures { result ≡ below (tables book.now) set }
 {
-    spread(book, book::JUNIORS, book::JUNIORS, set, 64)
+    spread(book, Table::Juniors, Table::Juniors, set, 64)
 }
 
 // The roles that role r reaches.
-pub fn reach(book: &[u64], r: u64) -> u64
-    requires { Full book.now × (r < 64) }
+pub fn reach(book: &book::Words, r: u64) -> u64
+    requires { r < 64 }
     ensures { result ≡ reach (tables book.now) r }
 {
-    below(book, book::row(book, book::JUNIORS, r))
+    below(book, book::row(book, Table::Juniors, r))
 }
 
 // Whether subject s owns role r: one of its assigned roles, or reached by one.
-pub fn owns_role(book: &[u64], s: u64, r: u64) -> bool
-    requires { Full book.now × (s < 64) × (r < 64) }
+pub fn owns_role(book: &book::Words, s: u64, r: u64) -> bool
+    requires { (s < 64) × (r < 64) }
     ensures { result ≡ owns_role (tables book.now) (subject (tables book.now) s) r }
 {
-    sets::has(below(book, book::row(book, book::ROLES_OF, s)), r)
+    sets::has(below(book, book::row(book, Table::RolesOf, s)), r)
 }
 
 // The tasks owned by one who starts with a set of roles.
-pub fn owned_tasks(book: &[u64], start: u64) -> u64
-    requires { Full book.now }
+pub fn owned_tasks(book: &book::Words, start: u64) -> u64
     ensures { result ≡ owned_tasks (tables book.now) start }
 {
-    joined_rows(book, book::TASKS_OF, book::TASKS_OF, below(book, start))
+    joined_rows(book, Table::TasksOf, Table::TasksOf, below(book, start))
 }
 
 // The subject group of task t: chains of SB.
-pub fn subject_group(book: &[u64], t: u64) -> u64
-    requires { Full book.now × (t < 64) }
+pub fn subject_group(book: &book::Words, t: u64) -> u64
+    requires { t < 64 }
     ensures { result ≡ subject_group (tables book.now) t }
 {
-    spread(book, book::SB, book::SB, sets::alone(t), 64)
+    spread(book, Table::Sb, Table::Sb, sets::alone(t), 64)
 }
 
 // What chains of SB and RB mixed lead to from a set of tasks. From the subject group of a task it is the role group: whoever needs both
 // can make the one from the other.
-pub fn bound_with(book: &[u64], set: u64) -> u64
-    requires { Full book.now }
+pub fn bound_with(book: &book::Words, set: u64) -> u64
     ensures { result ≡ close 64 (mixed (tables book.now) SB RB) set }
 {
-    spread(book, book::SB, book::RB, set, 64)
+    spread(book, Table::Sb, Table::Rb, set, 64)
 }
 
 // The role group of task t: chains of SB and RB mixed.
-pub fn role_group(book: &[u64], t: u64) -> u64
-    requires { Full book.now × (t < 64) }
+pub fn role_group(book: &book::Words, t: u64) -> u64
+    requires { t < 64 }
     ensures { result ≡ role_group (tables book.now) t }
 {
     bound_with(book, sets::alone(t))

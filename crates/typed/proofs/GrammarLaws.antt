@@ -1,6 +1,7 @@
 -- Laws of the grammar: what each value that was read makes of the line.
-use mathlib.Core.Path.{◌≡◌, sym, ap, ◌∙◌}
-use mathlib.Core.Bool.{Bool, true, false, ◌&&◌, not}
+use mathlib.Core.Path.{◌≡◌, refl, sym, ap, ◌∙◌}
+use mathlib.Core.Logic.{◌⊎◌}
+use mathlib.Core.Bool.{Bool, true, false, not}
 use mathlib.Core.List.{List}
 use Prim.Native.Nat.{ℕ, ◌≤◌, ◌<◌}
 use native.Mathlib.Omega.{arith}
@@ -9,180 +10,220 @@ use borrow.Author.Tests.{lt-ltb, le-ltb, eq-eqb, ne_eqb}
 use Rattle.decimal.specs.Decimal.{number_of}
 use Rattle.text.specs.Rows.{find_row}
 use Rattle.text.specs.Written.{written}
-use Rattle.labels.specs.Names.{is_name, found}
+use Rattle.labels.specs.Names.{sort_number, is_name, found}
 use Rattle.vocabulary.specs.Vocabulary.{show_row, audit_row, help_row, quit_row, name_row, try_row, row_count, row_for, kind_of}
-use Rattle.typed.specs.Words.{start_from, span_from}
-use Rattle.typed.specs.Arguments.{thing_at, argument_at, wanted}
-use Rattle.typed.specs.Grammar.{sort_at, sort_for, asked, following, by_next, ends, help_on, third_argument, second_argument, first_argument}
+use Rattle.typed.specs.Words.{start_from, span_from, part}
+use Rattle.typed.specs.Arguments.{Argument, Is, fault_at, WordRead, IsCut, IsOver, thing_at, argument_at, wanted}
+use Rattle.typed.specs.Grammar.{line_said, sort_at, sort_for, asked, by_sort, following, by_next, ends, help_on}
+use Rattle.typed.specs.Grammar.{third_argument, second_argument, first_argument}
 use Rattle.typed.specs.Grammar.{by_number, by_kind, show_of, is_taken, labelled, label_at, named_at, name_of}
 use Rattle.typed.specs.Grammar.{show_at, help_at, name_at, request_at, begun_by, line_of}
-use Rattle.typed.proofs.WordLaws.{starts, bytes_of, said_of, word_cut, word_missing, word_there}
+use Rattle.typed.proofs.WordLaws.{starts, passed_up, said_cut, said_over, said_neither, said_there}
 use Rattle.typed.specs.declared.words.Span.{Span}
-use Rattle.typed.specs.declared.arguments.Reason.{Reason}
-use Rattle.typed.specs.declared.arguments.Reason.TheVariants.{UnknownWord, TooLong, NotSort, NotName, Taken, NotInRange}
-use Rattle.typed.specs.declared.arguments.Argument.{Argument}
-use Rattle.typed.specs.declared.arguments.Argument.TheVariants.{Is, Not}
+use Rattle.std.proofs.Common.{Result, Ok, Err, Option, Some, None}
+use Rattle.std.specs.Result.{IsErrAnd}
+use Rattle.labels.specs.declared.Sort.{Sort}
+use Rattle.labels.specs.declared.Sort.TheVariants.{Person}
+use Rattle.typed.specs.declared.arguments.Fault.{Fault as Wrong}
+use Rattle.typed.specs.declared.arguments.Takes.{Takes}
+use Rattle.typed.specs.declared.arguments.Reason.TheVariants.{UnknownWord, TooFew, NotSort, NotName, Taken, NotInRange}
 use Rattle.typed.specs.declared.Line.{Line}
 use Rattle.typed.specs.declared.Line.TheVariants.{Blank, Name, ShowOne, Audit, HelpOn, Quit, Fault}
 
--- What follows from a word w: it is cut, it is missing, or it is there.
-module _ (line : List ℕ) (whole : Bool) (at : ℕ) (w : Span) (e : w ≡ span_from line at whole) (missing : Line) (there : ℕ → ℕ → List ℕ → Line) where
-  pub next_cut : w.cut ≡ true → Fault TooLong w.start ≡ by_next line whole at missing there
-  unfolding by_next
-  next_cut t = ap (Fault TooLong) (starts line whole at w e) ∙ word_cut line whole at w e _ _ _ t
+-- the line that a fault is
+abbrev pub fault_said : Wrong → Line
+fault_said fault = Fault fault.reason fault.start
 
-  pub next_missing : w.cut ≡ false → w.start ≡ w.end → missing ≡ by_next line whole at missing there
-  unfolding by_next
-  next_missing t o = word_missing line whole at w e _ _ _ t o
+-- A fault that a `?` passes up, or that is made here, is said.
+pub raised : (r : Result Line Wrong) {fault : Wrong} → IsErrAnd r (λ e. e ≡ fault) → line_said r ≡ fault_said fault
+unfolding line_said
+raised r e = ap line_said (passed_up r e)
 
-  pub next_there : w.cut ≡ false → (w.start ≡ w.end → ⊥) → there w.start w.end (bytes_of line whole at w e) ≡ by_next line whole at missing there
+pub faulted : (made : Wrong) {fault : Wrong} → made ≡ fault → line_said (Err made) ≡ fault_said fault
+unfolding line_said
+faulted made e = ap fault_said e
+
+-- Once said it is said.
+pub plain : (said : Line) → line_said (Ok said) ≡ said
+unfolding line_said
+plain said = refl
+
+-- What follows from the word from `at` on: the line is cut there, it is over, which is a fault where a word must be there, or it goes on.
+module _ (line : List ℕ) (whole : Bool) (at : ℕ) where
+  pub next_cut : (fault : Wrong) → IsCut line whole at fault → (missing : Line) (there : ℕ → ℕ → List ℕ → Line)
+      → fault_said fault ≡ by_next line whole at missing there
   unfolding by_next
-  next_there t o = said_of line whole at w e there ∙ word_there line whole at w e _ _ _ t o
+  next_cut fault h missing there = said_cut line whole at fault_said fault h _ _
+
+  pub next_over : IsOver line whole at → (missing : Line) (there : ℕ → ℕ → List ℕ → Line) → missing ≡ by_next line whole at missing there
+  unfolding by_next
+  next_over h missing there = said_over line whole at h _ _ _
+
+  pub next_neither : (fault : Wrong) → IsCut line whole at fault ⊎ (IsOver line whole at × (fault ≡ fault_at TooFew (start_from line at)))
+      → (there : ℕ → ℕ → List ℕ → Line) → fault_said fault ≡ by_next line whole at (Fault TooFew (start_from line at)) there
+  unfolding by_next
+  next_neither fault h there = said_neither line whole at fault_said fault h _
+
+  pub next_there : (w : Span) → WordRead line whole at w → (missing : Line) (there : ℕ → ℕ → List ℕ → Line)
+      → there w.start w.end (part w.start w.end line) ≡ by_next line whole at missing there
+  unfolding by_next
+  next_there w h missing there = said_there line whole at w h there _ _
 
 -- The sort of thing of each row.
-module _ (word : List ℕ) (row : ℕ) (e : row ≡ find_row (written "task    role    person  order   subject ") 0 5 8 word) where
-  pub sort_first : row < 4 → row ≡ sort_for word
-  unfolding sort_for sort_at
-  sort_first h = let same : row ≡ sort_at row = rw (sort_at, lt-ltb row 4 h) in same ∙ ap sort_at e
+pub sort_of_row : (word : List ℕ) (row : ℕ) → row ≡ find_row (written "task    role    person  order   subject ") 0 5 8 word → sort_at row ≡ sort_for word
+unfolding sort_for
+sort_of_row word row e = ap sort_at e
 
-  pub sort_person : row ≡ 4 → 2 ≡ sort_for word
-  unfolding sort_for sort_at
-  sort_person h = let same : 2 ≡ sort_at row = rw (h) in same ∙ ap sort_at e
+pub person_row : (row : ℕ) → (row ≡ 0 → ⊥) → (row ≡ 1 → ⊥) → (row ≡ 3 → ⊥) → row < 5 → Some Person ≡ sort_at row
+unfolding sort_at
+person_row row a b c h = rw (sort_at, ne_eqb row 0 a, ne_eqb row 1 b, ne_eqb row 3 c, lt-ltb row 5 h)
 
-  pub sort_none : 5 ≤ row → 4 ≡ sort_for word
-  unfolding sort_for sort_at
-  sort_none h = let none : 4 ≡ sort_at row = rw (sort_at, le-ltb row 4 (omega arith), ne_eqb row 4 (λ q. omega arith)) in none ∙ ap sort_at e
+pub no_row : (row : ℕ) → 5 ≤ row → None ≡ sort_at row
+unfolding sort_at
+no_row row h = rw (sort_at, ne_eqb row 0 (λ e. omega arith), ne_eqb row 1 (λ e. omega arith), ne_eqb row 3 (λ e. omega arith), le-ltb row 5 h)
+
+-- Another thing has the name: it was found, and is not thing n.
+pub taken_found : (names : List ℕ) (sort : Sort) (n : ℕ) (name : List ℕ) (holder : ℕ)
+    → (found names (sort_number sort) name < 64) × (holder ≡ found names (sort_number sort) name) → not (eqb holder n) ≡ is_taken names sort n name
+unfolding is_taken
+taken_found names sort n name holder h = ap (λ (k : ℕ). not (eqb k n)) h.1 ∙ rw (is_taken, lt-ltb (found names (sort_number sort) name) 64 h.0)
+
+pub taken_none : (names : List ℕ) (sort : Sort) (n : ℕ) (name : List ℕ) → (found names (sort_number sort) name < 64 → ⊥) → false ≡ is_taken names sort n name
+unfolding is_taken
+taken_none names sort n name h =
+    let l : 64 ≤ found names (sort_number sort) name = omega arith in rw (is_taken, le-ltb (found names (sort_number sort) name) 64 l)
 
 -- What follows from an argument that was read.
-pub follow : (rest : ℕ → ℕ → Line) (arg : Argument) (n behind : ℕ) → arg ≡ Is n behind → rest n behind ≡ following rest arg
+pub follow : (rest : ℕ → ℕ → Line) (arg : Argument) (n behind : ℕ) → Is n behind ≡ arg → rest n behind ≡ following rest arg
 unfolding following
-follow rest arg n behind q = rw (q)
+follow rest arg n behind q = ap (following rest) q
 
-pub follow_bad : (rest : ℕ → ℕ → Line) (arg : Argument) (r : Reason) (p : ℕ) → arg ≡ Not r p → Fault r p ≡ following rest arg
+pub follow_bad : (rest : ℕ → ℕ → Line) (arg : Argument) (f : Wrong) → Err f ≡ arg → fault_said f ≡ following rest arg
 unfolding following
-follow_bad rest arg r p q = rw (q)
+follow_bad rest arg f q = ap (following rest) q
 
--- `help` with a word of the row.
-module _ (line : List ℕ) (whole : Bool) (start end : ℕ) (word : List ℕ) (row : ℕ) (e : row ≡ row_for word) where
-  pub help_unknown : row ≡ row_count → Fault UnknownWord start ≡ help_on line whole start end word
+-- `help` with a word of the panel, or with none.
+module _ (line : List ℕ) (whole : Bool) (start end : ℕ) (word : List ℕ) where
+  pub help_unknown : (row_for word < row_count → ⊥) → Fault UnknownWord start ≡ help_on line whole start end word
   unfolding help_on
-  help_unknown h = rw (help_on, sym e, eq-eqb row row_count h)
+  help_unknown h = let l : row_count ≤ row_for word = omega arith in rw (help_on, le-ltb (row_for word) row_count l)
 
-  pub help_known : (row ≡ row_count → ⊥) → ends line whole end (HelpOn row) ≡ help_on line whole start end word
+  pub help_known : (row : ℕ) → (row_for word < row_count) × (row ≡ row_for word) → ends line whole end (HelpOn row) ≡ help_on line whole start end word
   unfolding help_on
-  help_known h = rw (help_on, sym e, ne_eqb row row_count h, sym e)
+  help_known row h = ap (λ (r : ℕ). ends line whole end (HelpOn r)) h.1 ∙ rw (help_on, lt-ltb (row_for word) row_count h.0)
 
 module _ (line : List ℕ) (whole : Bool) (names : List ℕ) where
-  -- The arguments of a request: `arg` was read as the sort that the kind wants at that place.
-  module _ (trial : Bool) (kind at sort : ℕ) (arg : Argument) (ha : arg ≡ argument_at line whole names sort at) where
-    argued : (want : ℕ) → sort ≡ want → (x : Argument) → arg ≡ x → argument_at line whole names want at ≡ x
-    argued want hs x q = ap (λ (s : ℕ). argument_at line whole names s at) (sym hs) ∙ sym ha ∙ q
+  -- The arguments of a request, each of the sort that the kind takes at that place.
+  module _ (trial : Bool) (kind : ℕ) (takes : Takes) (e : takes ≡ wanted kind) (at : ℕ) where
+    -- what is read as the sort that stands at one of the places
+    of_sort : (place : Takes → Sort) → argument_at line whole names (place takes) at ≡ argument_at line whole names (place (wanted kind)) at
+    of_sort place = ap (λ (t : Takes). argument_at line whole names (place t) at) e
 
-    module _ (a b : ℕ) (hs : sort ≡ (wanted kind).2) where
-      pub third_is : (c behind : ℕ) → arg ≡ Is c behind → (l : Line) → l ≡ asked trial kind a b c →
-          ends line whole behind l ≡ third_argument line whole names trial kind a b at
+    module _ (a b : ℕ) where
+      pub third_is : (c behind : ℕ) → Is c behind ≡ argument_at line whole names takes.2 at
+          → ends line whole behind (asked trial kind a b c) ≡ third_argument line whole names trial kind a b at
       unfolding third_argument
-      third_is c behind q l h = ap (ends line whole behind) h ∙ follow _ _ c behind (argued _ hs _ q)
+      third_is c behind q = follow (λ c behind. ends line whole behind (asked trial kind a b c)) _ c behind (q ∙ of_sort (λ t. t.2))
 
-      pub third_bad : (r : Reason) (p : ℕ) → arg ≡ Not r p → Fault r p ≡ third_argument line whole names trial kind a b at
+      pub third_bad : (f : Wrong) → Err f ≡ argument_at line whole names takes.2 at → fault_said f ≡ third_argument line whole names trial kind a b at
       unfolding third_argument
-      third_bad r p q = follow_bad _ _ r p (argued _ hs _ q)
+      third_bad f q = follow_bad _ _ f (q ∙ of_sort (λ t. t.2))
 
-    module _ (a : ℕ) (hs : sort ≡ (wanted kind).1) where
-      pub second_is : (b behind : ℕ) → arg ≡ Is b behind →
-          third_argument line whole names trial kind a b behind ≡ second_argument line whole names trial kind a at
+    module _ (a : ℕ) where
+      pub second_is : (b behind : ℕ) → Is b behind ≡ argument_at line whole names takes.1 at
+          → third_argument line whole names trial kind a b behind ≡ second_argument line whole names trial kind a at
       unfolding second_argument
-      second_is b behind q = follow (λ b behind. third_argument line whole names trial kind a b behind) _ b behind (argued _ hs _ q)
+      second_is b behind q = follow (λ b behind. third_argument line whole names trial kind a b behind) _ b behind (q ∙ of_sort (λ t. t.1))
 
-      pub second_bad : (r : Reason) (p : ℕ) → arg ≡ Not r p → Fault r p ≡ second_argument line whole names trial kind a at
+      pub second_bad : (f : Wrong) → Err f ≡ argument_at line whole names takes.1 at → fault_said f ≡ second_argument line whole names trial kind a at
       unfolding second_argument
-      second_bad r p q = follow_bad _ _ r p (argued _ hs _ q)
+      second_bad f q = follow_bad _ _ f (q ∙ of_sort (λ t. t.1))
 
-    module _ (hs : sort ≡ (wanted kind).0) where
-      pub first_is : (a behind : ℕ) → arg ≡ Is a behind →
-          second_argument line whole names trial kind a behind ≡ first_argument line whole names trial kind at
-      unfolding first_argument
-      first_is a behind q = follow (λ a behind. second_argument line whole names trial kind a behind) _ a behind (argued _ hs _ q)
+    pub first_is : (a behind : ℕ) → Is a behind ≡ argument_at line whole names takes.0 at
+        → second_argument line whole names trial kind a behind ≡ first_argument line whole names trial kind at
+    unfolding first_argument
+    first_is a behind q = follow (λ a behind. second_argument line whole names trial kind a behind) _ a behind (q ∙ of_sort (λ t. t.0))
 
-      pub first_bad_lem : (r : Reason) (p : ℕ) → arg ≡ Not r p → Fault r p ≡ first_argument line whole names trial kind at
-      unfolding first_argument
-      first_bad_lem r p q = follow_bad _ _ r p (argued _ hs _ q)
+    pub first_bad : (f : Wrong) → Err f ≡ argument_at line whole names takes.0 at → fault_said f ≡ first_argument line whole names trial kind at
+    unfolding first_argument
+    first_bad f q = follow_bad _ _ f (q ∙ of_sort (λ t. t.0))
 
   -- A request that begins with a word: of no kind, or of a kind.
-  module _ (trial : Bool) (start end : ℕ) (word : List ℕ) (row kind : ℕ) (er : row ≡ row_for word) (ek : kind ≡ kind_of row) where
-    its_kind : kind_of (row_for word) ≡ kind
-    its_kind = ap kind_of (sym er) ∙ sym ek
-
-    pub kind_number : kind ≡ 0 → by_number line whole names trial start end (number_of word) ≡ by_kind line whole names trial start end word
+  module _ (trial : Bool) (start end : ℕ) (word : List ℕ) where
+    pub kind_number : (0 < kind_of (row_for word) → ⊥)
+        → by_number line whole names trial start end (number_of word) ≡ by_kind line whole names trial start end word
     unfolding by_kind
-    kind_number h = rw (by_kind, its_kind, eq-eqb kind 0 h)
+    kind_number h = let z : kind_of (row_for word) ≡ 0 = omega arith in rw (by_kind, eq-eqb _ 0 z)
 
-    pub kind_known : (kind ≡ 0 → ⊥) → first_argument line whole names trial kind end ≡ by_kind line whole names trial start end word
+    pub kind_known : (kind : ℕ) → (0 < kind_of (row_for word)) × (kind ≡ kind_of (row_for word))
+        → first_argument line whole names trial kind end ≡ by_kind line whole names trial start end word
     unfolding by_kind
-    kind_known h = rw (by_kind, its_kind, ne_eqb kind 0 h, its_kind)
+    kind_known kind h =
+        ap (λ (k : ℕ). first_argument line whole names trial k end) h.1 ∙ rw (by_kind, ne_eqb (kind_of (row_for word)) 0 (λ e. omega arith))
 
   -- `show` and `name` with a word that is a sort, or none.
-  module _ (start end : ℕ) (word : List ℕ) (sort : ℕ) (e : sort ≡ sort_for word) where
-    pub show_none : sort ≡ 4 → Fault NotSort start ≡ show_of line whole names start end word
-    unfolding show_of
-    show_none h = rw (show_of, sym e, eq-eqb sort 4 h)
+  module _ (start end : ℕ) (word : List ℕ) (sort : Option Sort) (e : sort ≡ sort_for word) where
+    pub show_none : sort ≡ None → Fault NotSort start ≡ show_of line whole names start end word
+    unfolding show_of by_sort
+    show_none h = rw (show_of, sym e, h)
 
-    pub name_none : sort ≡ 4 → Fault NotSort start ≡ name_of line whole names start end word
-    unfolding name_of
-    name_none h = rw (name_of, sym e, eq-eqb sort 4 h)
+    pub name_none : sort ≡ None → Fault NotSort start ≡ name_of line whole names start end word
+    unfolding name_of by_sort
+    name_none h = rw (name_of, sym e, h)
 
-    pub name_sort : (sort ≡ 4 → ⊥) → named_at line whole names sort end ≡ name_of line whole names start end word
-    unfolding name_of
-    name_sort h = rw (name_of, sym e, ne_eqb sort 4 h, sym e)
+    pub name_sort : (s : Sort) → sort ≡ Some s → named_at line whole names s end ≡ name_of line whole names start end word
+    unfolding name_of by_sort
+    name_sort s h = rw (name_of, sym e, h)
 
-    module _ (h : sort ≡ 4 → ⊥) (arg : Argument) (ha : arg ≡ thing_at line whole names sort end) where
-      shows : following (λ n behind. ends line whole behind (ShowOne sort n)) arg ≡ show_of line whole names start end word
-      unfolding show_of
-      shows = rw (show_of, sym e, ne_eqb sort 4 h, sym e, ha)
+    module _ (s : Sort) (h : sort ≡ Some s) where
+      shows : following (λ n behind. ends line whole behind (ShowOne s n)) (thing_at line whole names s end) ≡ show_of line whole names start end word
+      unfolding show_of by_sort
+      shows = rw (show_of, sym e, h)
 
-      pub show_one : (n behind : ℕ) → arg ≡ Is n behind → ends line whole behind (ShowOne sort n) ≡ show_of line whole names start end word
-      show_one n behind q = follow (λ n behind. ends line whole behind (ShowOne sort n)) arg n behind q ∙ shows
+      pub show_one : (n behind : ℕ) → Is n behind ≡ thing_at line whole names s end
+          → ends line whole behind (ShowOne s n) ≡ show_of line whole names start end word
+      show_one n behind q = follow (λ n behind. ends line whole behind (ShowOne s n)) _ n behind q ∙ shows
 
-      pub show_bad : (r : Reason) (p : ℕ) → arg ≡ Not r p → Fault r p ≡ show_of line whole names start end word
-      show_bad r p q = follow_bad (λ n behind. ends line whole behind (ShowOne sort n)) arg r p q ∙ shows
+      pub show_bad : (f : Wrong) → Err f ≡ thing_at line whole names s end → fault_said f ≡ show_of line whole names start end word
+      show_bad f q = follow_bad _ _ f q ∙ shows
 
-  -- A word as a name for thing n of the sort: it is none, it is taken, or it is given.
-  module _ (sort n start end : ℕ) (word : List ℕ) (t : Bool) (et : t ≡ is_name word) where
+  -- A word as a name: it is none, another thing has it, or it is given.
+  module _ (sort : Sort) (n start end : ℕ) (word : List ℕ) (t : Bool) (et : t ≡ is_name word) where
     pub label_none : t ≡ false → Fault NotName start ≡ labelled line whole names sort n start end word
     unfolding labelled
     label_none h = rw (labelled, sym et ∙ h)
 
-    module _ (yes : t ≡ true) (holder : ℕ) (eh : holder ≡ found names sort word) where
-      pub label_taken : (ltb holder 64 && not (eqb holder n)) ≡ true → Fault Taken start ≡ labelled line whole names sort n start end word
-      unfolding labelled is_taken
-      label_taken h = rw (labelled, sym et ∙ yes, is_taken, sym eh, h)
+    module _ (yes : t ≡ true) (taken : Bool) (eh : taken ≡ is_taken names sort n word) where
+      pub label_taken : taken ≡ true → Fault Taken start ≡ labelled line whole names sort n start end word
+      unfolding labelled
+      label_taken h = rw (labelled, sym et ∙ yes, sym eh ∙ h)
 
-      pub label_given : (ltb holder 64 && not (eqb holder n)) ≡ false →
-          ends line whole end (Name sort n start end) ≡ labelled line whole names sort n start end word
-      unfolding labelled is_taken
-      label_given h = rw (labelled, sym et ∙ yes, is_taken, sym eh, h)
+      pub label_given : taken ≡ false → ends line whole end (Name sort n start end) ≡ labelled line whole names sort n start end word
+      unfolding labelled
+      label_given h = rw (labelled, sym et ∙ yes, sym eh ∙ h)
 
   -- The thing that gets a name.
-  module _ (sort at : ℕ) (arg : Argument) (ha : arg ≡ thing_at line whole names sort at) where
+  module _ (sort : Sort) (at : ℕ) where
     -- what follows from the thing's number
     abbrev rest : ℕ → ℕ → Line
     rest n behind = elim (ltb n 64) [ true ↦ label_at line whole names sort n behind | false ↦ Fault NotInRange (start_from line at) ]
 
-    pub named_is : (n behind : ℕ) → arg ≡ Is n behind → n < 64 → label_at line whole names sort n behind ≡ named_at line whole names sort at
+    pub named_is : (n behind : ℕ) → Is n behind ≡ thing_at line whole names sort at → n < 64
+        → label_at line whole names sort n behind ≡ named_at line whole names sort at
     unfolding named_at
     named_is n behind q h =
-        let inside : label_at line whole names sort n behind ≡ rest n behind = rw (rest, lt-ltb n 64 h) in inside ∙ follow rest _ n behind (sym ha ∙ q)
+        let inside : label_at line whole names sort n behind ≡ rest n behind = rw (rest, lt-ltb n 64 h) in inside ∙ follow rest _ n behind q
 
-    pub named_out : (n behind : ℕ) → arg ≡ Is n behind → 64 ≤ n → (w : Span) → w ≡ span_from line at whole →
+    pub named_out : (n behind : ℕ) → Is n behind ≡ thing_at line whole names sort at → 64 ≤ n → (w : Span) → w ≡ span_from line at whole →
         Fault NotInRange w.start ≡ named_at line whole names sort at
     unfolding named_at
     named_out n behind q h w e =
         let outside : Fault NotInRange (start_from line at) ≡ rest n behind = rw (rest, le-ltb n 64 h) in
-        ap (Fault NotInRange) (starts line whole at w e) ∙ outside ∙ follow rest _ n behind (sym ha ∙ q)
+        ap (Fault NotInRange) (starts line whole at w e) ∙ outside ∙ follow rest _ n behind q
 
-    pub named_bad : (r : Reason) (p : ℕ) → arg ≡ Not r p → Fault r p ≡ named_at line whole names sort at
+    pub named_bad : (f : Wrong) → Err f ≡ thing_at line whole names sort at → fault_said f ≡ named_at line whole names sort at
     unfolding named_at
-    named_bad r p q = follow_bad rest _ r p (sym ha ∙ q)
+    named_bad f q = follow_bad rest _ f q
 
   -- The line that begins with the word of a row.
   module _ (row end : ℕ) where
@@ -217,10 +258,19 @@ module _ (line : List ℕ) (whole : Bool) (names : List ℕ) where
     begun_request a b c d e f =
         rw (begun_by, ne_eqb row show_row a, ne_eqb row audit_row b, ne_eqb row help_row c, ne_eqb row quit_row d, ne_eqb row name_row e, ne_eqb row try_row f)
 
-  -- The line that begins with word w.
-  pub line_begun : (w : Span) (e : w ≡ span_from line 0 whole) → w.cut ≡ false → (w.start ≡ w.end → ⊥) → (row : ℕ) →
-      row ≡ row_for (bytes_of line whole 0 w e) → begun_by line whole names row w.end ≡ line_of line whole names
-  unfolding line_of
-  line_begun w e t o row h =
-      ap (λ (r : ℕ). begun_by line whole names r w.end) h
-      ∙ next_there line whole 0 w e Blank (λ start end word. begun_by line whole names (row_for word) end) t o
+  -- The line that begins with word w, a word of the panel or another.
+  module _ (w : Span) (h : WordRead line whole 0 w) where
+    -- the row of the word
+    abbrev row_of : ℕ
+    row_of = row_for (part w.start w.end line)
+
+    begins : begun_by line whole names row_of w.end ≡ line_of line whole names
+    unfolding line_of
+    begins = next_there line whole 0 w h Blank (λ start end word. begun_by line whole names (row_for word) end)
+
+    pub line_begun : (row : ℕ) → (row_of < row_count) × (row ≡ row_of) → begun_by line whole names row w.end ≡ line_of line whole names
+    line_begun row l = ap (λ (r : ℕ). begun_by line whole names r w.end) l.1 ∙ begins
+
+    pub line_other : (row_of < row_count → ⊥) → request_at line whole names false 0 ≡ line_of line whole names
+    line_other l =
+        begun_request row_of w.end (λ q. omega arith) (λ q. omega arith) (λ q. omega arith) (λ q. omega arith) (λ q. omega arith) (λ q. omega arith) ∙ begins

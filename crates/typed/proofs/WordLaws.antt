@@ -1,5 +1,6 @@
 -- Laws of the words of a line: going past bytes one by one.
-use mathlib.Core.Path.{◌≡◌, sym, ap, ◌∙◌}
+use mathlib.Core.Path.{◌≡◌, refl, sym, ap, ◌∙◌}
+use mathlib.Core.Logic.{◌⊎◌, inl, inr}
 use mathlib.Core.Bool.{Bool, true, false}
 use mathlib.Core.List.{List, ◌∷◌}
 use Prim.Native.Nat.{ℕ, ◌+◌, ◌≤◌, ◌<◌}
@@ -9,6 +10,11 @@ use lib.ListN.{length, drop, get_or, drop_of_length-le}
 use lib.Seq.{drop-cons}
 use borrow.Author.Tests.{eq-eqb, ne_eqb}
 use Rattle.typed.specs.Words.{belongs, run, past, start_from, end_from, is_cut, span_from, part, word_at, by_word}
+use Rattle.std.proofs.Common.{Result, Ok, Err}
+use Rattle.std.specs.Result.{IsErrAnd}
+use Rattle.typed.specs.Arguments.{fault_at, WordRead, IsCut, IsOver}
+use Rattle.typed.specs.declared.arguments.Fault.{Fault}
+use Rattle.typed.specs.declared.arguments.Reason.TheVariants.{TooFew, TooLong}
 use Rattle.typed.specs.declared.words.Span.{Span}
 
 module _ (line : List ℕ) (i b : ℕ) (h : i < length line) (at_i : b ≡ get_or line i 0) (in_word : Bool) where
@@ -62,3 +68,31 @@ module _ (line : List ℕ) (whole : Bool) (at : ℕ) (w : Span) (e : w ≡ span_
     pub word_there : w.cut ≡ false → (w.start ≡ w.end → ⊥) → there ≡ by_word line whole at cut missing there
     unfolding by_word
     word_there t o = rw (by_word, cuts ∙ t, ne_eqb _ _ (λ same. o (starts ∙ same ∙ sym ends)))
+
+-- What a `?` passes up is the fault that it met.
+pub passed_up : {T : Type 0} (r : Result T Fault) {fault : Fault} → IsErrAnd r (λ e. e ≡ fault) → r ≡ Err fault
+passed_up (Ok x) e = absurd e
+passed_up (Err f) e = ap Err e
+
+-- What was told of the word from `at` on is what follows from it.
+module _ (line : List ℕ) (whole : Bool) (at : ℕ) {A : Type 0} where
+  -- The line is cut there, and a fault is said ..
+  pub said_cut : (say : Fault → A) (fault : Fault) → IsCut line whole at fault → (missing there : A)
+      → say fault ≡ by_word line whole at (say (fault_at TooLong (start_from line at))) missing there
+  said_cut say fault h missing there = ap say h.1 ∙ word_cut line whole at (span_from line at whole) refl _ _ _ h.0
+
+  -- .. or it is over ..
+  pub said_over : IsOver line whole at → (cut missing there : A) → missing ≡ by_word line whole at cut missing there
+  said_over h cut missing there = word_missing line whole at (span_from line at whole) refl _ _ _ h.0 h.1
+
+  -- .. which is a fault where a word must be there ..
+  pub said_neither : (say : Fault → A) (fault : Fault) → IsCut line whole at fault ⊎ (IsOver line whole at × (fault ≡ fault_at TooFew (start_from line at)))
+      → (there : A) → say fault ≡ by_word line whole at (say (fault_at TooLong (start_from line at))) (say (fault_at TooFew (start_from line at))) there
+  said_neither say fault (inl h) there = said_cut say fault h _ there
+  said_neither say fault (inr h) there = ap say h.1 ∙ said_over h.0 _ _ there
+
+  -- .. or word w was read.
+  pub said_there : (w : Span) → WordRead line whole at w → (f : ℕ → ℕ → List ℕ → A) → (cut missing : A)
+      → f w.start w.end (part w.start w.end line) ≡ by_word line whole at cut missing (f (start_from line at) (end_from line at) (word_at line at))
+  said_there w h f cut missing =
+      said_of line whole at w h.from_at f ∙ word_there line whole at w h.from_at _ _ _ h.not_cut (λ e. omega (arith, h.not_empty, e))

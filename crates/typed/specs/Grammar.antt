@@ -4,39 +4,61 @@
 --   request  a kind, by its number or its word, then the arguments that it uses, in the order a, b, c of document 01
 --
 -- Every definition here computes. `at` is where to read on; a fault names the word that it is about by where that stands.
-use Rattle.std.specs.Prelude.{Bool, true, false, ◌&&◌, not, List, ℕ, eqb, ltb}
+use Rattle.std.specs.Prelude.{Bool, true, false, ◌&&◌, not, List, ℕ, eqb, ltb, Option, Some, None, Result, Ok, Err}
 use Rattle.decimal.specs.Decimal.{number_of}
-use Rattle.decimal.specs.declared.Number.{Number}
-use Rattle.decimal.specs.declared.Number.TheVariants.{Is as number, TooLarge as large_number, NotDecimal as no_number}
+use Rattle.decimal.specs.declared.Unread.{Unread}
+use Rattle.decimal.specs.declared.Unread.TheVariants.{TooLarge as large_number, NotDecimal as no_number}
 use Rattle.text.specs.Rows.{find_row}
 use Rattle.text.specs.Written.{written}
-use Rattle.labels.specs.Names.{is_name, found}
+use Rattle.labels.specs.declared.Sort.{Sort}
+use Rattle.labels.specs.declared.Sort.TheVariants.{Task, Role, Person, Order}
+use Rattle.labels.specs.Names.{sort_number, is_name, found}
 use Rattle.vocabulary.specs.Vocabulary.{show_row, audit_row, help_row, quit_row, name_row, try_row, row_count, row_for, kind_of}
 use Rattle.typed.specs.Words.{start_from, end_from, word_at, by_word}
-use Rattle.typed.specs.Arguments.{thing_at, argument_at, wanted}
+use Rattle.typed.specs.Arguments.{Argument, thing_at, argument_at, wanted}
 use Rattle.typed.specs.declared.arguments.Reason.TheVariants.{UnknownWord, TooLarge, TooFew, TooMany, TooLong, NotSort, NotName, Taken, NotInRange}
-use Rattle.typed.specs.declared.arguments.Argument.{Argument}
-use Rattle.typed.specs.declared.arguments.Argument.TheVariants.{Is, Not}
+use Rattle.typed.specs.declared.arguments.Fault.{Fault as Wrong}
 use Rattle.typed.specs.declared.Line.{Line}
 use Rattle.typed.specs.declared.Line.TheVariants.{Blank, Ask, Try, Name, Show, ShowOne, Audit, Help, HelpOn, Quit, Fault}
 
 -- the sort of thing of a row of the sorts' words: the fifth says person in document 01's word
-unfoldable pub sort_at : ℕ → ℕ
-sort_at row = elim (ltb row 4) [ true ↦ row | false ↦ elim (eqb row 4) [ true ↦ 2 | false ↦ 4 ] ]
+unfoldable pub sort_at : ℕ → Option Sort
+sort_at row =
+    elim (eqb row 0) [
+      | true ↦ Some Task
+      | false ↦ elim (eqb row 1) [
+        | true ↦ Some Role
+        | false ↦ elim (eqb row 3) [ true ↦ Some Order | false ↦ elim (ltb row 5) [ true ↦ Some Person | false ↦ None ] ]
+      ]
+    ]
 
--- the sort of thing that a word names; 4 where it is none
-unfoldable pub sort_for : List ℕ → ℕ
+-- the sort of thing that a word names, if it names one
+unfoldable pub sort_for : List ℕ → Option Sort
 sort_for word = sort_at (find_row (written "task    role    person  order   subject ") 0 5 8 word)
+
+-- what follows from a sort, if there is one
+unfoldable pub by_sort : Option Sort → Line → (Sort → Line) → Line
+by_sort None missing there = missing
+by_sort (Some sort) missing there = there sort
 
 -- the request, asked or only tried
 unfoldable pub asked : Bool → ℕ → ℕ → ℕ → ℕ → Line
 asked trial kind a b c =
     elim trial [ true ↦ Try (record { kind = kind; a = a; b = b; c = c }) | false ↦ Ask (record { kind = kind; a = a; b = b; c = c }) ]
 
+-- the line that is said, of what reading gave: that line, or the fault
+unfoldable pub line_said : Result Line Wrong → Line
+line_said (Ok said) = said
+line_said (Err fault) = Fault fault.reason fault.start
+
 -- what follows from an argument: `rest` of its value and of where the line goes on, or the fault
 unfoldable pub following : (ℕ → ℕ → Line) → Argument → Line
-following rest (Is n behind) = rest n behind
-following rest (Not reason place) = Fault reason place
+following rest (Ok (n, behind)) = rest n behind
+following rest (Err fault) = Fault fault.reason fault.start
+
+-- another thing of the sort than n has the name
+unfoldable pub is_taken : List ℕ → Sort → ℕ → List ℕ → Bool
+is_taken names sort n name = ltb (found names (sort_number sort) name) 64 && not (eqb (found names (sort_number sort) name) n)
 
 module _ (line : List ℕ) (whole : Bool) where
   -- What follows from the word from `at` on: a line that is cut there is too long, the word is missing, or it is there: where it
@@ -51,7 +73,7 @@ module _ (line : List ℕ) (whole : Bool) where
 
   -- help on a word of the panel
   unfoldable pub help_on : ℕ → ℕ → List ℕ → Line
-  help_on start end word = elim (eqb (row_for word) row_count) [ true ↦ Fault UnknownWord start | false ↦ ends end (HelpOn (row_for word)) ]
+  help_on start end word = elim (ltb (row_for word) row_count) [ true ↦ ends end (HelpOn (row_for word)) | false ↦ Fault UnknownWord start ]
 
   -- `help` alone, or with a word of the panel
   unfoldable pub help_at : ℕ → Line
@@ -74,10 +96,10 @@ module _ (line : List ℕ) (whole : Bool) where
         following (λ a behind. second_argument trial kind a behind) (argument_at line whole names (wanted kind).0 at)
 
     -- a request whose kind is given as a number
-    unfoldable pub by_number : Bool → ℕ → ℕ → Number → Line
-    by_number trial start end (number kind) = first_argument trial kind end
-    by_number trial start end large_number = Fault TooLarge start
-    by_number trial start end no_number = Fault UnknownWord start
+    unfoldable pub by_number : Bool → ℕ → ℕ → Result ℕ Unread → Line
+    by_number trial start end (Ok kind) = first_argument trial kind end
+    by_number trial start end (Err large_number) = Fault TooLarge start
+    by_number trial start end (Err no_number) = Fault UnknownWord start
 
     -- a request that begins with a word: its kind is a word of the panel or a number
     unfoldable pub by_kind : Bool → ℕ → ℕ → List ℕ → Line
@@ -94,33 +116,27 @@ module _ (line : List ℕ) (whole : Bool) where
     -- one thing of a sort is shown
     unfoldable pub show_of : ℕ → ℕ → List ℕ → Line
     show_of start end word =
-        elim (eqb (sort_for word) 4) [
-          | true ↦ Fault NotSort start
-          | false ↦ following (λ n behind. ends behind (ShowOne (sort_for word) n)) (thing_at line whole names (sort_for word) end)
-        ]
+        by_sort (sort_for word) (Fault NotSort start)
+        (λ sort. following (λ n behind. ends behind (ShowOne sort n)) (thing_at line whole names sort end))
 
     -- `show` alone, or with a sort and one of it
     unfoldable pub show_at : ℕ → Line
     show_at at = by_next at Show show_of
 
-    -- another thing of the sort than n has the name
-    unfoldable pub is_taken : ℕ → ℕ → List ℕ → Bool
-    is_taken sort n name = ltb (found names sort name) 64 && not (eqb (found names sort name) n)
-
     -- the word as a name for thing n of the sort
-    unfoldable pub labelled : ℕ → ℕ → ℕ → ℕ → List ℕ → Line
+    unfoldable pub labelled : Sort → ℕ → ℕ → ℕ → List ℕ → Line
     labelled sort n start end word =
         elim (is_name word) [
-          | true ↦ elim (is_taken sort n word) [ true ↦ Fault Taken start | false ↦ ends end (Name sort n start end) ]
+          | true ↦ elim (is_taken names sort n word) [ true ↦ Fault Taken start | false ↦ ends end (Name sort n start end) ]
           | false ↦ Fault NotName start
         ]
 
     -- the name from `at` on, for thing n of the sort
-    unfoldable pub label_at : ℕ → ℕ → ℕ → Line
+    unfoldable pub label_at : Sort → ℕ → ℕ → Line
     label_at sort n at = by_next at (Fault TooFew (start_from line at)) (labelled sort n)
 
     -- the thing from `at` on, whose number is 0 to 63, and then its name
-    unfoldable pub named_at : ℕ → ℕ → Line
+    unfoldable pub named_at : Sort → ℕ → Line
     named_at sort at =
         following
         (λ n behind. elim (ltb n 64) [ true ↦ label_at sort n behind | false ↦ Fault NotInRange (start_from line at) ])
@@ -128,7 +144,7 @@ module _ (line : List ℕ) (whole : Bool) where
 
     -- the word as a sort, and then one of it and its name
     unfoldable pub name_of : ℕ → ℕ → List ℕ → Line
-    name_of start end word = elim (eqb (sort_for word) 4) [ true ↦ Fault NotSort start | false ↦ named_at (sort_for word) end ]
+    name_of start end word = by_sort (sort_for word) (Fault NotSort start) (λ sort. named_at sort end)
 
     -- `name`, a sort, one of it and its name
     unfoldable pub name_at : ℕ → Line

@@ -1,12 +1,15 @@
 // The arguments of a request: numbers, names of things, and masks of tasks.
-ghost use Rattle.std.specs.Prelude.{◌≡◌};
+ghost use Rattle.std.specs.Prelude.{◌≡◌, ltb};
+ghost use Rattle.labels.specs.Names.{sort_number};
 ghost use Rattle.typed.specs.Arguments.{value_of, called_by, counts, placed_at, thing_at, number_at, is_tasks, tasks_from, mask_at, argument_at};
-ghost use Rattle.typed.specs.Arguments.{wanted};
+ghost use Rattle.typed.specs.Arguments.{fault_at, NextWord, NeededWord, wanted};
 
-use crate::words;
+use crate::words::{self, Span};
+use decimal::Unread;
+use labels::Sort;
 
 // What is wrong with a line.
-#[derive(Clone, Copy)]
+#[derive(Clone, Copy, PartialEq, Eq)]
 pub enum Reason {
     // The word is no word of the panel and no number of a kind.
     UnknownWord,
@@ -31,185 +34,111 @@ pub enum Reason {
     NotInRange,
 }
 
-// What a word stands for.
-#[derive(Clone, Copy)]
-pub enum Value {
-    Is(u64),
-    Not(Reason),
+// What is wrong, and where the word concerned stands.
+#[derive(Clone, Copy, PartialEq, Eq)]
+pub struct Fault {
+    pub reason: Reason,
+    pub start: usize,
 }
 
-// An argument, with where the line goes on behind it; or what is wrong, with where the word stands.
-#[derive(Clone, Copy)]
-pub enum Argument {
-    Is(u64, usize),
-    Not(Reason, usize),
+impl Reason {
+    // The fault of a word that starts there.
+    pub(crate) fn at(self, start: usize) -> Fault
+        ensures { result ≡ fault_at self start }
+    {
+        Fault {
+            reason: self,
+            start,
+        }
+    }
 }
-
-// What an argument may be, beside the four sorts of things that have names: it is not there, it is a number that may be missing, or a mask.
-const UNUSED: u64 = 4;
-
-const ANY: u64 = 5;
-
-const MASK: u64 = 6;
 
 // What a kind takes as a, b and c.
 #[derive(Clone, Copy)]
-pub struct Takes(pub u64, pub u64, pub u64);
+pub struct Takes(pub Sort, pub Sort, pub Sort);
 
 // Row 0, and one for each kind.
 const ROWS: usize = 22;
 
 // By kind, after row 0: what is no kind takes any numbers, none to three of them.
 const TABLE: [Takes; ROWS] = [
-    Takes(ANY, ANY, ANY), // no kind
-    Takes(labels::TASK, UNUSED, UNUSED), // 1
-    Takes(labels::ROLE, UNUSED, UNUSED), // 2
-    Takes(labels::PERSON, UNUSED, UNUSED), // 3
-    Takes(labels::TASK, labels::TASK, UNUSED), // 4
-    Takes(labels::TASK, labels::TASK, UNUSED), // 5
-    Takes(labels::TASK, labels::TASK, UNUSED), // 6
-    Takes(labels::TASK, labels::TASK, UNUSED), // 7
-    Takes(labels::TASK, labels::ROLE, UNUSED), // 8
-    Takes(labels::ROLE, labels::ROLE, UNUSED), // 9
-    Takes(labels::ROLE, labels::PERSON, UNUSED), // 10
-    Takes(labels::ROLE, labels::PERSON, UNUSED), // 11
-    Takes(labels::ORDER, UNUSED, MASK), // 12
-    Takes(labels::TASK, labels::ORDER, labels::PERSON), // 13
-    Takes(labels::ORDER, UNUSED, UNUSED), // 14
-    Takes(labels::TASK, labels::ROLE, UNUSED), // 15
-    Takes(labels::ROLE, labels::ROLE, UNUSED), // 16
-    Takes(labels::ROLE, labels::PERSON, UNUSED), // 17
-    Takes(labels::TASK, labels::TASK, UNUSED), // 18
-    Takes(labels::TASK, labels::TASK, UNUSED), // 19
-    Takes(labels::TASK, labels::TASK, UNUSED), // 20
-    Takes(labels::TASK, labels::TASK, UNUSED), // 21
+    Takes(Sort::Any, Sort::Any, Sort::Any), // no kind
+    Takes(Sort::Task, Sort::Unused, Sort::Unused), // 1
+    Takes(Sort::Role, Sort::Unused, Sort::Unused), // 2
+    Takes(Sort::Person, Sort::Unused, Sort::Unused), // 3
+    Takes(Sort::Task, Sort::Task, Sort::Unused), // 4
+    Takes(Sort::Task, Sort::Task, Sort::Unused), // 5
+    Takes(Sort::Task, Sort::Task, Sort::Unused), // 6
+    Takes(Sort::Task, Sort::Task, Sort::Unused), // 7
+    Takes(Sort::Task, Sort::Role, Sort::Unused), // 8
+    Takes(Sort::Role, Sort::Role, Sort::Unused), // 9
+    Takes(Sort::Role, Sort::Person, Sort::Unused), // 10
+    Takes(Sort::Role, Sort::Person, Sort::Unused), // 11
+    Takes(Sort::Order, Sort::Unused, Sort::Mask), // 12
+    Takes(Sort::Task, Sort::Order, Sort::Person), // 13
+    Takes(Sort::Order, Sort::Unused, Sort::Unused), // 14
+    Takes(Sort::Task, Sort::Role, Sort::Unused), // 15
+    Takes(Sort::Role, Sort::Role, Sort::Unused), // 16
+    Takes(Sort::Role, Sort::Person, Sort::Unused), // 17
+    Takes(Sort::Task, Sort::Task, Sort::Unused), // 18
+    Takes(Sort::Task, Sort::Task, Sort::Unused), // 19
+    Takes(Sort::Task, Sort::Task, Sort::Unused), // 20
+    Takes(Sort::Task, Sort::Task, Sort::Unused), // 21
 ];
 
-// The row of a kind.
-fn row_of(kind: u64) -> Takes
+// What a kind takes.
+pub fn wanted(kind: u64) -> Takes
     ensures { result ≡ wanted kind }
 {
     let i = kind as usize;
     if i < ROWS { TABLE[i] } else { TABLE[0] }
 }
 
-// What a kind takes first ..
-pub fn first_of(kind: u64) -> u64
-    ensures { result ≡ (wanted kind).0 }
-{
-    row_of(kind).0
-}
-
-// .. second ..
-pub fn second_of(kind: u64) -> u64
-    ensures { result ≡ (wanted kind).1 }
-{
-    row_of(kind).1
-}
-
-// .. and third.
-pub fn third_of(kind: u64) -> u64
-    ensures { result ≡ (wanted kind).2 }
-{
-    row_of(kind).2
-}
-
 // The thing of the sort that a name stands for.
-fn called(names: &[u8], sort: u64, word: &[u8]) -> Value
+fn called(names: &[u8], sort: Sort, word: &[u8]) -> Result<u64, Reason>
     ensures { result ≡ called_by names.now sort word.now }
 {
-    let n = labels::find(names, sort, word);
-    if n < 64 {
-        return Value::Is(n);
-    }
-    Value::Not(Reason::UnknownName)
+    labels::find(names, sort, word).ok_or(Reason::UnknownName)
 }
 
 // The number that a word writes.
-fn counted(word: &[u8]) -> Value
+fn counted(word: &[u8]) -> Result<u64, Reason>
     ensures { result ≡ counts word.now }
 {
     match decimal::read(word) {
-        decimal::Number::Is(n) => Value::Is(n),
-        decimal::Number::TooLarge => Value::Not(Reason::TooLarge),
-        decimal::Number::NotDecimal => Value::Not(Reason::NotNumber),
+        Ok(n) => Ok(n),
+        Err(Unread::TooLarge) => Err(Reason::TooLarge),
+        Err(Unread::NotDecimal) => Err(Reason::NotNumber),
+    }
+}
+
+// Whether things of the sort have names.
+fn has_names(sort: Sort) -> bool
+    ensures { result ≡ ltb (sort_number sort) 4 }
+{
+    match sort {
+        Sort::Task | Sort::Role | Sort::Person | Sort::Order => true,
+        Sort::Unused | Sort::Any | Sort::Mask => false,
     }
 }
 
 // What a word stands for where a thing of the sort is wanted: a name of that sort, or a number.
-fn stands_for(names: &[u8], sort: u64, word: &[u8]) -> Value
+fn stands_for(names: &[u8], sort: Sort, word: &[u8]) -> Result<u64, Reason>
     ensures { result ≡ value_of names.now sort word.now }
 {
-    if (sort < UNUSED) & labels::is_name(word) {
+    if has_names(sort) & labels::is_name(word) {
         return called(names, sort, word);
     }
     counted(word)
 }
 
-// A value as an argument.
-fn placed(value: Value, start: usize, end: usize) -> Argument
+// A value as an argument, with where the line goes on behind it; or what is wrong, with where the word stands.
+fn placed(value: Result<u64, Reason>, start: usize, end: usize) -> Result<(u64, usize), Fault>
     ensures { result ≡ placed_at value start end }
 {
     match value {
-        Value::Is(n) => Argument::Is(n, end),
-        Value::Not(reason) => Argument::Not(reason, start),
-    }
-}
-
-// The word from `at` on, which must be there, as a thing of the sort; of sort UNUSED and above as a number.
-pub fn thing(line: &[u8], whole: bool, names: &[u8], sort: u64, at: usize) -> Argument
-    ensures { result ≡ thing_at line.now whole names.now sort at }
-{
-    let word = words::next(line, at, whole);
-    let start = word.start;
-    let end = word.end;
-    if word.cut {
-        return Argument::Not(Reason::TooLong, start);
-    }
-    if start == end {
-        return Argument::Not(Reason::TooFew, start);
-    }
-    placed(stands_for(names, sort, &line[start..end]), start, end)
-}
-
-// The word from `at` on as a number; 0 where there is none.
-fn number(line: &[u8], whole: bool, at: usize) -> Argument
-    ensures { result ≡ number_at line.now whole at }
-{
-    let word = words::next(line, at, whole);
-    let start = word.start;
-    let end = word.end;
-    if word.cut {
-        return Argument::Not(Reason::TooLong, start);
-    }
-    if start == end {
-        return Argument::Is(0, at);
-    }
-    placed(counted(&line[start..end]), start, end)
-}
-
-// The tasks that the words from `at` on name, put to the set, as far as the steps go.
-fn tasks_from(line: &[u8], whole: bool, names: &[u8], set: u64, at: usize, steps: u64) -> Argument
-    ensures { result ≡ tasks_from line.now whole names.now steps set at }
-{
-    if steps == 0 {
-        return Argument::Is(set, at);
-    }
-    let word = words::next(line, at, whole);
-    if word.cut {
-        return Argument::Not(Reason::TooLong, word.start);
-    }
-    if word.start == word.end {
-        return Argument::Is(set, at);
-    }
-    match thing(line, whole, names, labels::TASK, at) {
-        Argument::Is(task, behind) => {
-            if task < 64 {
-                return tasks_from(line, whole, names, sets::add(set, task), behind, steps - 1);
-            }
-            Argument::Not(Reason::NotInRange, word.start)
-        }
-        Argument::Not(reason, start) => Argument::Not(reason, start),
+        Ok(n) => Ok((n, end)),
+        Err(reason) => Err(reason.at(start)),
     }
 }
 
@@ -220,30 +149,97 @@ fn is_tasks(word: &[u8]) -> bool
     text::is_row(b"tasks", 0, 5, word)
 }
 
-// The tasks of an order: a mask, or the word `tasks` and one task or more.
-fn mask(line: &[u8], whole: bool, names: &[u8], at: usize) -> Argument
-    ensures { result ≡ mask_at line.now whole names.now at }
-{
-    let word = words::next(line, at, whole);
-    let start = word.start;
-    let end = word.end;
-    if !is_tasks(&line[start..end]) {
-        return thing(line, whole, names, UNUSED, at);
-    }
-    match thing(line, whole, names, labels::TASK, end) {
-        Argument::Is(_, _) => tasks_from(line, whole, names, 0, end, 64),
-        Argument::Not(reason, start) => Argument::Not(reason, start),
-    }
+// What is read: the bytes of a line, whether they are all of it, and the names that things have.
+#[derive(Clone, Copy)]
+pub struct Source<'a> {
+    pub line: &'a [u8],
+    pub whole: bool,
+    pub names: &'a [u8],
 }
 
-// The argument from `at` on, of the sort that is wanted.
-pub fn read_argument(line: &[u8], whole: bool, names: &[u8], sort: u64, at: usize) -> Argument
-    ensures { result ≡ argument_at line.now whole names.now sort at }
-{
-    match sort {
-        UNUSED => Argument::Is(0, at),
-        ANY => number(line, whole, at),
-        MASK => mask(line, whole, names, at),
-        _ => thing(line, whole, names, sort, at),
+impl<'a> Source<'a> {
+    // The word from `at` on, if the line has one more; a line that is cut there is too long.
+    pub fn next_word(self, at: usize) -> Result<Option<Span>, Fault>
+        ensures { NextWord self.entry.line.now self.entry.whole at result }
+    {
+        let word = words::next(self.line, at, self.whole);
+        if word.cut {
+            return Err(Reason::TooLong.at(word.start));
+        }
+        if word.start == word.end {
+            return Ok(None);
+        }
+        Ok(Some(word))
+    }
+
+    // The word from `at` on, which must be there.
+    pub fn needed_word(self, at: usize) -> Result<Span, Fault>
+        ensures { NeededWord self.entry.line.now self.entry.whole at result }
+    {
+        match self.next_word(at)? {
+            Some(word) => Ok(word),
+            None => Err(Reason::TooFew.at(words::next(self.line, at, self.whole).start)),
+        }
+    }
+
+    // The word from `at` on, which must be there, as a thing of the sort; of a sort without names as a number.
+    pub fn thing(self, sort: Sort, at: usize) -> Result<(u64, usize), Fault>
+        ensures { result ≡ thing_at self.entry.line.now self.entry.whole self.entry.names.now sort at }
+    {
+        let word = self.needed_word(at)?;
+        let value = stands_for(self.names, sort, &self.line[word.start..word.end]);
+        placed(value, word.start, word.end)
+    }
+
+    // The word from `at` on as a number; 0 where there is none.
+    fn number(self, at: usize) -> Result<(u64, usize), Fault>
+        ensures { result ≡ number_at self.entry.line.now self.entry.whole at }
+    {
+        let Some(word) = self.next_word(at)? else {
+            return Ok((0, at));
+        };
+        let value = counted(&self.line[word.start..word.end]);
+        placed(value, word.start, word.end)
+    }
+
+    // The tasks that the words from `at` on name, put to the set, as far as the steps go.
+    fn tasks_from(self, set: u64, at: usize, steps: u64) -> Result<(u64, usize), Fault>
+        ensures { result ≡ tasks_from self.entry.line.now self.entry.whole self.entry.names.now steps set at }
+    {
+        if steps == 0 {
+            return Ok((set, at));
+        }
+        let Some(word) = self.next_word(at)? else {
+            return Ok((set, at));
+        };
+        let (task, behind) = self.thing(Sort::Task, at)?;
+        if task < 64 {
+            return self.tasks_from(sets::add(set, task), behind, steps - 1);
+        }
+        Err(Reason::NotInRange.at(word.start))
+    }
+
+    // The tasks of an order: a mask, or the word `tasks` and one task or more.
+    fn mask(self, at: usize) -> Result<(u64, usize), Fault>
+        ensures { result ≡ mask_at self.entry.line.now self.entry.whole self.entry.names.now at }
+    {
+        let word = words::next(self.line, at, self.whole);
+        if !is_tasks(&self.line[word.start..word.end]) {
+            return self.thing(Sort::Unused, at);
+        }
+        self.thing(Sort::Task, word.end)?;
+        self.tasks_from(0, word.end, 64)
+    }
+
+    // The argument from `at` on, of the sort that is wanted.
+    pub fn argument(self, sort: Sort, at: usize) -> Result<(u64, usize), Fault>
+        ensures { result ≡ argument_at self.entry.line.now self.entry.whole self.entry.names.now sort at }
+    {
+        match sort {
+            Sort::Unused => Ok((0, at)),
+            Sort::Any => self.number(at),
+            Sort::Mask => self.mask(at),
+            Sort::Task | Sort::Role | Sort::Person | Sort::Order => self.thing(sort, at),
+        }
     }
 }

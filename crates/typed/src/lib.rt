@@ -9,14 +9,18 @@
 mod arguments;
 mod words;
 
-ghost use Rattle.std.specs.Prelude.{◌≡◌, ◌≤◌, length};
+ghost use Rattle.std.specs.Prelude.{◌≡◌, ◌≤◌, ◌<◌, length};
+ghost use Rattle.std.specs.Option.{SomeIff};
+ghost use Rattle.vocabulary.specs.Vocabulary.{row_for, kind_of};
 ghost use Rattle.decimal.specs.Decimal.{number_of};
 ghost use Rattle.typed.specs.Words.{part};
-ghost use Rattle.typed.specs.Grammar.{sort_for, asked, ends, help_at, third_argument, second_argument, first_argument, by_number, request_at, show_at};
-ghost use Rattle.typed.specs.Grammar.{label_at, named_at, name_at, begun_by, line_of};
+ghost use Rattle.typed.specs.Grammar.{line_said, sort_for, asked, ends, help_at, first_argument, by_number, request_at, show_at};
+ghost use Rattle.typed.specs.Grammar.{is_taken, label_at, named_at, name_at, begun_by, line_of};
 
-use arguments::Argument;
-pub use arguments::{Reason, first_of, second_of, third_of};
+use arguments::{Fault, Source};
+pub use arguments::{Reason, Takes, wanted};
+use decimal::Unread;
+use labels::Sort;
 pub use words::next;
 
 // How much of a line its reader keeps.
@@ -39,10 +43,10 @@ pub enum Line {
     // What the book would answer.
     Try(Request),
     // The thing of a sort gets the name that stands from the one place to before the other.
-    Name(u64, u64, usize, usize),
+    Name(Sort, u64, usize, usize),
     Show,
     // The thing of a sort.
-    ShowOne(u64, u64),
+    ShowOne(Sort, u64),
     Audit,
     Help,
     // The row of the vocabulary.
@@ -52,34 +56,16 @@ pub enum Line {
     Fault(Reason, usize),
 }
 
-// How many sorts of things there are: what sort_of gives for a word that is none.
-const SORTS: u64 = 4;
-
 // The sort of thing that a word names: a task, a role, a person (or subject) or an order.
-pub fn sort_of(word: &[u8]) -> u64
+pub fn sort_of(word: &[u8]) -> Option<Sort>
     ensures { result ≡ sort_for word.now }
 {
-    let row = text::find_row(b"task    role    person  order   subject ", 0, 5, 8, word);
-    match row {
-        0..=3 => row,
-        4 => labels::PERSON,
-        _ => SORTS,
+    match text::find_row(b"task    role    person  order   subject ", 0, 5, 8, word)? {
+        0 => Some(Sort::Task),
+        1 => Some(Sort::Role),
+        3 => Some(Sort::Order),
+        _ => Some(Sort::Person),
     }
-}
-
-// What is said, where the line ends at `at`.
-fn ended(line: &[u8], whole: bool, at: usize, said: Line) -> Line
-    ensures { result ≡ ends line.now whole at said }
-{
-    let word = next(line, at, whole);
-    let start = word.start;
-    if word.cut {
-        return Line::Fault(Reason::TooLong, start);
-    }
-    if start == word.end {
-        return said;
-    }
-    Line::Fault(Reason::TooMany, start)
 }
 
 // The request, asked or only tried.
@@ -92,190 +78,159 @@ fn ask(trial: bool, kind: u64, a: u64, b: u64, c: u64) -> Line
     Line::Ask(Request { kind, a, b, c })
 }
 
-// The rest of the request, once its kind, a and b are read.
-fn third(
-    line: &[u8],
-    whole: bool,
-    names: &[u8],
-    trial: bool,
-    kind: u64,
-    a: u64,
-    b: u64,
-    at: usize,
-) -> Line
-    ensures { result ≡ third_argument line.now whole names.now trial kind a b at }
+// The kind that a word of the panel names, if it names one.
+fn kind_of(word: &[u8]) -> Option<u64>
+    ensures { SomeIff result (0 < kind_of (row_for word.now)) (kind_of (row_for word.now)) }
 {
-    match arguments::read_argument(line, whole, names, arguments::third_of(kind), at) {
-        Argument::Is(c, behind) => ended(line, whole, behind, ask(trial, kind, a, b, c)),
-        Argument::Not(reason, start) => Line::Fault(reason, start),
+    vocabulary::kind_of(vocabulary::find(word)?)
+}
+
+// Whether another thing of the sort than n has the name.
+fn is_taken(names: &[u8], sort: Sort, n: u64, name: &[u8]) -> bool
+    ensures { result ≡ is_taken names.now sort n name.now }
+{
+    match labels::find(names, sort, name) {
+        Some(holder) => holder != n,
+        None => false,
     }
 }
 
-// The rest of the request, once its kind and a are read.
-fn second(line: &[u8], whole: bool, names: &[u8], trial: bool, kind: u64, a: u64, at: usize) -> Line
-    ensures { result ≡ second_argument line.now whole names.now trial kind a at }
-{
-    match arguments::read_argument(line, whole, names, arguments::second_of(kind), at) {
-        Argument::Is(b, behind) => third(line, whole, names, trial, kind, a, b, behind),
-        Argument::Not(reason, start) => Line::Fault(reason, start),
-    }
-}
-
-// The rest of the request, once its kind is read.
-fn first(line: &[u8], whole: bool, names: &[u8], trial: bool, kind: u64, at: usize) -> Line
-    ensures { result ≡ first_argument line.now whole names.now trial kind at }
-{
-    match arguments::read_argument(line, whole, names, arguments::first_of(kind), at) {
-        Argument::Is(a, behind) => second(line, whole, names, trial, kind, a, behind),
-        Argument::Not(reason, start) => Line::Fault(reason, start),
-    }
-}
-
-// A request whose kind is given as a number.
-fn numbered(line: &[u8], whole: bool, names: &[u8], trial: bool, start: usize, end: usize) -> Line
-    requires { (start ≤ end) × (end ≤ length line.now) }
-    ensures { result ≡ by_number line.now whole names.now trial start end (number_of (part start end line.now)) }
-{
-    match decimal::read(&line[start..end]) {
-        decimal::Number::Is(kind) => first(line, whole, names, trial, kind, end),
-        decimal::Number::TooLarge => Line::Fault(Reason::TooLarge, start),
-        decimal::Number::NotDecimal => Line::Fault(Reason::UnknownWord, start),
-    }
-}
-
-// The request that stands from `at` on.
-fn read_request(line: &[u8], whole: bool, names: &[u8], trial: bool, at: usize) -> Line
-    ensures { result ≡ request_at line.now whole names.now trial at }
-{
-    let word = next(line, at, whole);
-    let start = word.start;
-    let end = word.end;
-    if word.cut {
-        return Line::Fault(Reason::TooLong, start);
-    }
-    if start == end {
-        return Line::Fault(Reason::TooFew, start);
-    }
-    let kind = vocabulary::kind_of(vocabulary::find(&line[start..end]));
-    if kind == 0 {
-        return numbered(line, whole, names, trial, start, end);
-    }
-    first(line, whole, names, trial, kind, end)
-}
-
-// `show` alone, or with a sort and one of it; the word `show` ends before `at`.
-fn show(line: &[u8], whole: bool, names: &[u8], at: usize) -> Line
-    ensures { result ≡ show_at line.now whole names.now at }
-{
-    let word = next(line, at, whole);
-    let start = word.start;
-    let end = word.end;
-    if word.cut {
-        return Line::Fault(Reason::TooLong, start);
-    }
-    if start == end {
-        return Line::Show;
-    }
-    let sort = sort_of(&line[start..end]);
-    if sort == SORTS {
-        return Line::Fault(Reason::NotSort, start);
-    }
-    match arguments::thing(line, whole, names, sort, end) {
-        Argument::Is(n, behind) => ended(line, whole, behind, Line::ShowOne(sort, n)),
-        Argument::Not(reason, start) => Line::Fault(reason, start),
-    }
-}
-
-// `help` alone, or with a word of the panel.
-fn help(line: &[u8], whole: bool, at: usize) -> Line
-    ensures { result ≡ help_at line.now whole at }
-{
-    let word = next(line, at, whole);
-    let start = word.start;
-    let end = word.end;
-    if word.cut {
-        return Line::Fault(Reason::TooLong, start);
-    }
-    if start == end {
-        return Line::Help;
-    }
-    let row = vocabulary::find(&line[start..end]);
-    if row == vocabulary::ROWS {
-        return Line::Fault(Reason::UnknownWord, start);
-    }
-    ended(line, whole, end, Line::HelpOn(row))
-}
-
-// The name from `at` on, for thing n of the sort.
-fn label(line: &[u8], whole: bool, names: &[u8], sort: u64, n: u64, at: usize) -> Line
-    ensures { result ≡ label_at line.now whole names.now sort n at }
-{
-    let word = next(line, at, whole);
-    let start = word.start;
-    let end = word.end;
-    if word.cut {
-        return Line::Fault(Reason::TooLong, start);
-    }
-    if start == end {
-        return Line::Fault(Reason::TooFew, start);
-    }
-    if !labels::is_name(&line[start..end]) {
-        return Line::Fault(Reason::NotName, start);
-    }
-    let holder = labels::find(names, sort, &line[start..end]);
-    if (holder < 64) & (holder != n) {
-        return Line::Fault(Reason::Taken, start);
-    }
-    ended(line, whole, end, Line::Name(sort, n, start, end))
-}
-
-// The thing from `at` on, whose number is 0 to 63, and then its name.
-fn named(line: &[u8], whole: bool, names: &[u8], sort: u64, at: usize) -> Line
-    ensures { result ≡ named_at line.now whole names.now sort at }
-{
-    match arguments::thing(line, whole, names, sort, at) {
-        Argument::Is(n, behind) => {
-            if n < 64 {
-                return label(line, whole, names, sort, n, behind);
-            }
-            Line::Fault(Reason::NotInRange, next(line, at, whole).start)
+impl<'a> Source<'a> {
+    // What is said, where the line ends at `at`.
+    fn ended(self, at: usize, said: Line) -> Result<Line, Fault>
+        ensures { line_said result ≡ ends self.entry.line.now self.entry.whole at said }
+    {
+        match self.next_word(at)? {
+            Some(word) => Err(Reason::TooMany.at(word.start)),
+            None => Ok(said),
         }
-        Argument::Not(reason, start) => Line::Fault(reason, start),
     }
-}
 
-// `name`, a sort, one of it and its name.
-fn name(line: &[u8], whole: bool, names: &[u8], at: usize) -> Line
-    ensures { result ≡ name_at line.now whole names.now at }
-{
-    let word = next(line, at, whole);
-    let start = word.start;
-    let end = word.end;
-    if word.cut {
-        return Line::Fault(Reason::TooLong, start);
+    // The rest of the request, once its kind is read.
+    fn of_kind(self, trial: bool, kind: u64, at: usize) -> Result<Line, Fault>
+        ensures { line_said result ≡ first_argument self.entry.line.now self.entry.whole self.entry.names.now trial kind at }
+    {
+        let takes = wanted(kind);
+        let (a, at) = self.argument(takes.0, at)?;
+        let (b, at) = self.argument(takes.1, at)?;
+        let (c, at) = self.argument(takes.2, at)?;
+        self.ended(at, ask(trial, kind, a, b, c))
     }
-    if start == end {
-        return Line::Fault(Reason::TooFew, start);
-    }
-    let sort = sort_of(&line[start..end]);
-    if sort == SORTS {
-        return Line::Fault(Reason::NotSort, start);
-    }
-    named(line, whole, names, sort, end)
-}
 
-// What the line says that begins with the word of a row, which ends before `end`.
-fn begun(line: &[u8], whole: bool, names: &[u8], row: u64, end: usize) -> Line
-    ensures { result ≡ begun_by line.now whole names.now row end }
-{
-    match row {
-        vocabulary::SHOW => show(line, whole, names, end),
-        vocabulary::AUDIT => ended(line, whole, end, Line::Audit),
-        vocabulary::HELP => help(line, whole, end),
-        vocabulary::QUIT => ended(line, whole, end, Line::Quit),
-        vocabulary::NAME => name(line, whole, names, end),
-        vocabulary::TRY => read_request(line, whole, names, true, end),
-        _ => read_request(line, whole, names, false, 0),
+    // A request whose kind is given as a number.
+    fn numbered(self, trial: bool, start: usize, end: usize) -> Result<Line, Fault>
+        requires { (start ≤ end) × (end ≤ length self.line.now) }
+        ensures { line_said result ≡ by_number self.entry.line.now self.entry.whole self.entry.names.now trial start end
+            (number_of (part start end self.entry.line.now)) }
+    {
+        match decimal::read(&self.line[start..end]) {
+            Ok(kind) => self.of_kind(trial, kind, end),
+            Err(Unread::TooLarge) => Err(Reason::TooLarge.at(start)),
+            Err(Unread::NotDecimal) => Err(Reason::UnknownWord.at(start)),
+        }
+    }
+
+    // The request that stands from `at` on.
+    fn read_request(self, trial: bool, at: usize) -> Result<Line, Fault>
+        ensures { line_said result ≡ request_at self.entry.line.now self.entry.whole self.entry.names.now trial at }
+    {
+        let word = self.needed_word(at)?;
+        match kind_of(&self.line[word.start..word.end]) {
+            Some(kind) => self.of_kind(trial, kind, word.end),
+            None => self.numbered(trial, word.start, word.end),
+        }
+    }
+
+    // `show` alone, or with a sort and one of it; the word `show` ends before `at`.
+    fn show(self, at: usize) -> Result<Line, Fault>
+        ensures { line_said result ≡ show_at self.entry.line.now self.entry.whole self.entry.names.now at }
+    {
+        let Some(word) = self.next_word(at)? else {
+            return Ok(Line::Show);
+        };
+        let Some(sort) = sort_of(&self.line[word.start..word.end]) else {
+            return Err(Reason::NotSort.at(word.start));
+        };
+        let (n, behind) = self.thing(sort, word.end)?;
+        self.ended(behind, Line::ShowOne(sort, n))
+    }
+
+    // `help` alone, or with a word of the panel.
+    fn help(self, at: usize) -> Result<Line, Fault>
+        ensures { line_said result ≡ help_at self.entry.line.now self.entry.whole at }
+    {
+        let Some(word) = self.next_word(at)? else {
+            return Ok(Line::Help);
+        };
+        let Some(row) = vocabulary::find(&self.line[word.start..word.end]) else {
+            return Err(Reason::UnknownWord.at(word.start));
+        };
+        self.ended(word.end, Line::HelpOn(row))
+    }
+
+    // The name from `at` on, for thing n of the sort.
+    fn label(self, sort: Sort, n: u64, at: usize) -> Result<Line, Fault>
+        ensures { line_said result ≡ label_at self.entry.line.now self.entry.whole self.entry.names.now sort n at }
+    {
+        let word = self.needed_word(at)?;
+        let name = &self.line[word.start..word.end];
+        if !labels::is_name(name) {
+            return Err(Reason::NotName.at(word.start));
+        }
+        if is_taken(self.names, sort, n, name) {
+            return Err(Reason::Taken.at(word.start));
+        }
+        self.ended(word.end, Line::Name(sort, n, word.start, word.end))
+    }
+
+    // The thing from `at` on, whose number is 0 to 63, and then its name.
+    fn named(self, sort: Sort, at: usize) -> Result<Line, Fault>
+        ensures { line_said result ≡ named_at self.entry.line.now self.entry.whole self.entry.names.now sort at }
+    {
+        let (n, behind) = self.thing(sort, at)?;
+        if n < 64 {
+            return self.label(sort, n, behind);
+        }
+        Err(Reason::NotInRange.at(next(self.line, at, self.whole).start))
+    }
+
+    // `name`, a sort, one of it and its name.
+    fn name(self, at: usize) -> Result<Line, Fault>
+        ensures { line_said result ≡ name_at self.entry.line.now self.entry.whole self.entry.names.now at }
+    {
+        let word = self.needed_word(at)?;
+        match sort_of(&self.line[word.start..word.end]) {
+            Some(sort) => self.named(sort, word.end),
+            None => Err(Reason::NotSort.at(word.start)),
+        }
+    }
+
+    // What the line says that begins with the word of a row, which ends before `end`.
+    fn begun(self, row: u64, end: usize) -> Result<Line, Fault>
+        ensures { line_said result ≡ begun_by self.entry.line.now self.entry.whole self.entry.names.now row end }
+    {
+        match row {
+            vocabulary::SHOW => self.show(end),
+            vocabulary::AUDIT => self.ended(end, Line::Audit),
+            vocabulary::HELP => self.help(end),
+            vocabulary::QUIT => self.ended(end, Line::Quit),
+            vocabulary::NAME => self.name(end),
+            vocabulary::TRY => self.read_request(true, end),
+            _ => self.read_request(false, 0),
+        }
+    }
+
+    // What the line says, or what is wrong with it.
+    fn read_line(self) -> Result<Line, Fault>
+        ensures { line_said result ≡ line_of self.entry.line.now self.entry.whole self.entry.names.now }
+    {
+        let Some(word) = self.next_word(0)? else {
+            return Ok(Line::Blank);
+        };
+        match vocabulary::find(&self.line[word.start..word.end]) {
+            Some(row) => self.begun(row, word.end),
+            None => self.read_request(false, 0),
+        }
     }
 }
 
@@ -283,14 +238,8 @@ fn begun(line: &[u8], whole: bool, names: &[u8], row: u64, end: usize) -> Line
 pub fn read(line: &[u8], whole: bool, names: &[u8]) -> Line
     ensures { result ≡ line_of line.now whole names.now }
 {
-    let word = next(line, 0, whole);
-    let start = word.start;
-    let end = word.end;
-    if word.cut {
-        return Line::Fault(Reason::TooLong, start);
+    match (Source { line, whole, names }).read_line() {
+        Ok(said) => said,
+        Err(fault) => Line::Fault(fault.reason, fault.start),
     }
-    if start == end {
-        return Line::Blank;
-    }
-    begun(line, whole, names, vocabulary::find(&line[start..end]), end)
 }

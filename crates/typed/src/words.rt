@@ -1,10 +1,11 @@
 // The words of a line: parted by blanks, up to a comment.
-ghost use Rattle.std.specs.Prelude.{◌≡◌, ◌≤◌, min, length};
+ghost use Rattle.std.specs.Prelude.{◌≡◌, ◌≤◌, length};
 ghost use Rattle.typed.specs.Words.{is_blank, belongs, past, span_from};
 
+// Stays: a word is told by its places and not as a slice, since a fault names where it stands, and what follows is read from its end.
 // A word of a line, from `start` to before `end`; empty where the line has no more.
 // It is cut where it, or what comes behind it, lies past what is held of the line.
-#[derive(Drop)]
+#[derive(Clone, Copy)]
 pub struct Span {
     pub start: usize,
     pub end: usize,
@@ -34,27 +35,19 @@ fn go_past(line: &[u8], from: usize, in_word: bool) -> usize
     requires { from ≤ length line.now }
     ensures { (result ≡ past line.now from in_word) × (from ≤ result) × (result ≤ length line.now) }
 {
-    let mut i = from;
-    while i < line.len() {
+    for i in from..line.len() {
         if !is_of(line[i], in_word) {
             return i;
         }
-        i += 1;
     }
-    i
-}
-
-fn least(a: usize, b: usize) -> usize
-    ensures { (result ≡ min a b) × (result ≤ b) }
-{
-    if a < b { a } else { b }
+    line.len()
 }
 
 // The next word of the line from `from` on; the line is not whole where it went on past the last byte here.
 pub fn next(line: &[u8], from: usize, whole: bool) -> Span
     ensures { (result ≡ span_from line.now from whole) × (result.start ≤ result.end) × (result.end ≤ length line.now) }
 {
-    let first = least(from, line.len());
+    let first = from.min(line.len());
     let start = go_past(line, first, false);
     let end = go_past(line, start, true);
     let cut = (end == line.len()) & !whole;

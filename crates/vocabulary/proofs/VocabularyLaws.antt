@@ -1,12 +1,20 @@
 -- What each range of rows names, and what is found and read in the rows.
-use mathlib.Core.Path.{◌≡◌, refl, ap, ◌∙◌}
-use mathlib.Core.List.{List}
-use Prim.Native.Nat.{ℕ, ◌+◌, ◌*◌, ◌-◌, ◌≤◌, ◌<◌}
+use mathlib.Core.Path.{◌≡◌, refl, sym, ap, ◌∙◌}
+use mathlib.Core.Bool.{Bool, true, ◌&&◌}
+use mathlib.Core.List.{List, [], ◌∷◌, ◌++◌}
+use Prim.Native.String.{String}
+use lib.Dec.{leb}
+use lib.ListN.{length, get_or-append}
+use lib.Seq.{get_or-append-add}
+use Rattle.sets.proofs.Logic.{and_out}
+use Rattle.text.specs.Written.{written}
+use Rattle.text.proofs.RowLaws.{letter_filled, length_filled, rows_same}
+use Prim.Native.Nat.{ℕ, zero, suc, ◌+◌, ◌*◌, ◌-◌, ◌≤◌, ◌<◌}
 use native.Mathlib.Omega.{arith}
-use borrow.Author.Tests.{lt-ltb, le-ltb}
+use borrow.Author.Tests.{lt-ltb, le-ltb, leb-true}
 use Rattle.sets.specs.Search.{all, lowest_from}
 use Rattle.text.specs.Rows.{letter_at, filled, same_letters, is_row, find_row}
-use Rattle.vocabulary.specs.Vocabulary.{row_count, words, rows_of, row_for, word_letter, kind_of, found_from, EachInItsRow}
+use Rattle.vocabulary.specs.Vocabulary.{row_count, words, rows_of, row_for, nth_word, word_of, kind_of, found_from, EachInItsRow}
 
 -- The first rows name no kind.
 pub names_none : (row : ℕ) → row < 6 → 0 ≡ kind_of row
@@ -33,25 +41,43 @@ pub names_no_row : (row : ℕ) → row_count ≤ row → 0 ≡ kind_of row
 unfolding kind_of
 names_no_row row h = rw (kind_of, le-ltb row 6 (omega arith), le-ltb row 10 (omega arith), le-ltb row 11 (omega arith), le-ltb row row_count h)
 
--- What is found in the rows is the row of the word.
-pub found_row : (rows word : List ℕ) → rows ≡ rows_of words → find_row rows 0 row_count 16 word ≡ row_for word
-unfolding row_for
-found_row rows word e = ap (λ (l : List ℕ). find_row l 0 row_count 16 word) e
+-- Behind the last word of a list there is none.
+past_last : (ws : List String) (n : ℕ) → length ws ≤ n → [] ≡ nth_word n ws
+unfolding nth_word
+past_last [] n h = refl
+past_last (w ∷ ws) zero h = absurd (omega arith)
+past_last (w ∷ ws) (suc n) h = past_last ws n (omega arith)
 
--- A row that is none has blanks for letters ..
-pub letter_no_row : (row i : ℕ) → row_count ≤ row → 32 ≡ word_letter row i
-unfolding word_letter
-letter_no_row row i h = rw (word_letter, le-ltb row row_count h)
+pub no_word : (row : ℕ) → row_count ≤ row → [] ≡ word_of row
+unfolding words
+no_word row h = past_last words row h
 
--- .. and so is what stands behind a row.
-pub letter_behind : (row i : ℕ) → row < row_count → 16 ≤ i → 32 ≡ word_letter row i
-unfolding word_letter
-letter_behind row i h l = rw (word_letter, lt-ltb row row_count h, le-ltb i 16 l)
+-- every word fits a row
+abbrev fit : List String → Bool
+fit [] = true
+fit (w ∷ ws) = leb (length (written w)) 16 && fit ws
 
--- Else it is read in the rows.
-pub letter_within : (rows : List ℕ) (row i : ℕ) → row < row_count → i < 16 → rows ≡ rows_of words → letter_at rows (row * 16 + i) ≡ word_letter row i
-unfolding word_letter
-letter_within rows row i h l e = ap (λ (x : List ℕ). letter_at x (row * 16 + i)) e ∙ rw (word_letter, lt-ltb row row_count h, lt-ltb i 16 l)
+-- The words one by one have the letters that their rows have one behind the other.
+letters_same : (ws : List String) → fit ws ≡ true → (row i : ℕ) → i < 16 → letter_at (nth_word row ws) (0 + i) ≡ letter_at (rows_of ws) (0 + row * 16 + i)
+unfolding nth_word rows_of letter_at
+letters_same [] e row i h = refl
+letters_same (w ∷ ws) e zero i h =
+    let long : length (filled 16 (written w)) ≡ 16 = length_filled 16 (written w) (leb-true _ _ (and_out _ _ e).0) in
+    sym (letter_filled 16 (written w) (0 + i)) ∙ sym (get_or-append (filled 16 (written w)) (rows_of ws) 32 (0 + i) (omega arith))
+letters_same (w ∷ ws) e (suc row) i h =
+    let long : length (filled 16 (written w)) ≡ 16 = length_filled 16 (written w) (leb-true _ _ (and_out _ _ e).0) in
+    let at : length (filled 16 (written w)) + (0 + row * 16 + i) ≡ 0 + suc row * 16 + i = omega arith in
+    letters_same ws (and_out _ _ e).1 row i h
+    ∙ sym (get_or-append-add (filled 16 (written w)) (rows_of ws) (0 + row * 16 + i) 32)
+    ∙ ap (λ (k : ℕ). letter_at (filled 16 (written w) ++ rows_of ws) k) at
+
+all_fit : fit words ≡ true
+unfolding words
+all_fit = refl
+
+-- So a word is that of a row where the rows have it there.
+pub known_row : (row : ℕ) (word : List ℕ) → is_row (word_of row) 0 16 word ≡ is_row (rows_of words) (0 + row * 16) 16 word
+known_row row word = rows_same _ _ 0 (0 + row * 16) 16 word (letters_same words all_fit row)
 
 -- Every word is found in its own row: computed.
 pub each_in_its_row : EachInItsRow

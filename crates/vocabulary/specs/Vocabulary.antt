@@ -1,8 +1,8 @@
 -- The words of the panel, one to a row of 16 bytes, and the kinds of request that they name.
 -- Every definition here computes.
-use Rattle.std.specs.Prelude.{◌≡◌, Bool, true, false, ◌&&◌, List, [], ◌∷◌, ◌++◌, ℕ, suc, ◌+◌, ◌*◌, ◌-◌, ltb, eqb}
+use Rattle.std.specs.Prelude.{◌≡◌, Bool, true, false, ◌&&◌, List, [], ◌∷◌, ◌++◌, ℕ, zero, suc, ◌-◌, ltb, eqb}
 use Prim.Native.String.{String}
-use Rattle.text.specs.Rows.{letter_at, filled, find_row}
+use Rattle.text.specs.Rows.{filled, find_row}
 use Rattle.text.specs.Written.{written}
 
 -- the rows of the words that are no kind
@@ -74,9 +74,15 @@ rows_of (w ∷ ws) = filled 16 (written w) ++ rows_of ws
 unfoldable pub row_for : List ℕ → ℕ
 row_for word = find_row (rows_of words) 0 row_count 16 word
 
--- letter i of the word of a row; a blank behind its end, or where there is no such row
-unfoldable pub word_letter : ℕ → ℕ → ℕ
-word_letter row i = elim (ltb row row_count && ltb i 16) [ true ↦ letter_at (rows_of words) (row * 16 + i) | false ↦ 32 ]
+-- the bytes of word n of the list; none behind its end
+unfoldable pub nth_word : ℕ → List String → List ℕ
+nth_word n [] = []
+nth_word zero (w ∷ ws) = written w
+nth_word (suc n) (w ∷ ws) = nth_word n ws
+
+-- the word of a row; none where there is no such row
+abbrev pub word_of : ℕ → List ℕ
+word_of row = nth_word row words
 
 -- the kind that a row names; 0 where it names none
 unfoldable pub kind_of : ℕ → ℕ

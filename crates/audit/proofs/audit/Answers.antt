@@ -1,47 +1,36 @@
 -- Each answer after those before it failed; a book without a bad word is well-formed.
-use native.Mathlib.Omega.{arith}
-use borrow.Author.Tests.{eq-eqb, ne_eqb, lt-ltb, le-ltb}
-use Rattle.rules.specs.Book.{book_words}
+use borrow.Author.Tests.{eq-eqb, ne_eqb, lt-ltb}
 use Rattle.rules.specs.Numbers.{given}
 use Rattle.rules.specs.Audit.{audit, audited}
-use Rattle.rules.specs.Meaning.{Fits}
-use Rattle.book.specs.Slice.{words}
 use Rattle.scan.proofs.FormedLaws.{scanned}
 use Rattle.audit.proofs.audit.Goals as goal
 
-pub returns-then-book-ne-WORDS : goal.returns-then-book-ne-WORDS
+pub returns-in_default : goal.returns-in_default
 unfolding audited audit given
-returns-then-book-ne-WORDS c = rw (ne_eqb _ _ c.if-book-ne-WORDS.true)
+returns-in_default c = rw (ne_eqb _ _ c.in_default.ensures.1)
 
-pub returns-then-i-lt-END : goal.returns-then-i-lt-END
+pub returns-in-Some : goal.returns-in-Some
 unfolding audited audit given
-returns-then-i-lt-END c =
-    rw (eq-eqb _ _ c.if-book-ne-WORDS.false, ← c.first_bad-i.ensures, lt-ltb c.first_bad-i.result book_words (omega arith))
+returns-in-Some c =
+    let whole = c.in-Ok.ensures.1 in
+    let bad = c.in-Some.ensures in
+    rw (eq-eqb _ _ whole.long, ← whole.same, bad.1, lt-ltb _ _ bad.0)
 
-pub lowest_broken-rule-requires : goal.lowest_broken-rule-requires
-lowest_broken-rule-requires c =
-    let s = c.args in
-    let fits : Fits (words s.book.now) = λ i h. (c.type_inv.book i).fits in
-    scanned s.book.now (omega arith) fits c.first_bad-i.ensures (omega arith)
+pub lowest_broken-requires : goal.lowest_broken-requires
+lowest_broken-requires c =
+    let whole = c.in-Ok.ensures.1 in
+    rw whole.same
+    (scanned c.args.words.now whole.long (λ i h. (c.type_inv.words i).fits) (rw whole.same at c.in_default-first_bad.ensures))
 
-pub returns-then-rule-lt-PAST : goal.returns-then-rule-lt-PAST
+pub returns-in-Some-lowest_broken : goal.returns-in-Some-lowest_broken
 unfolding audited audit given
-returns-then-rule-lt-PAST c =
-    rw (
-      eq-eqb _ _ c.if-book-ne-WORDS.false,
-      ← c.first_bad-i.ensures,
-      le-ltb _ _ c.if-i-lt-END.false,
-      ← c.lowest_broken-rule.ensures,
-      lt-ltb _ _ c.if-rule-lt-PAST.true,
-    )
+returns-in-Some-lowest_broken c =
+    let whole = c.in-Ok.ensures.1 in
+    let rule = c.in-Some-lowest_broken.ensures in
+    rw (eq-eqb _ _ whole.long, ← whole.same, c.in_default-first_bad.ensures, rule.1, lt-ltb _ _ rule.0)
 
-pub returns : goal.returns
+pub returns-in-None : goal.returns-in-None
 unfolding audited audit given
-returns c =
-    rw (
-      eq-eqb _ _ c.if-book-ne-WORDS.false,
-      ← c.first_bad-i.ensures,
-      le-ltb _ _ c.if-i-lt-END.false,
-      ← c.lowest_broken-rule.ensures,
-      le-ltb _ _ c.if-rule-lt-PAST.false,
-    )
+returns-in-None c =
+    let whole = c.in-Ok.ensures.1 in
+    rw (eq-eqb _ _ whole.long, ← whole.same, c.in_default-first_bad.ensures, c.in-None.ensures)

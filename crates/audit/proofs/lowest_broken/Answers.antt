@@ -25,9 +25,11 @@ is_broken-requires c = (search rules, search rules, c.loop-rule.invariant.2)
 
 pub returns-then-is_broken : goal.returns-then-is_broken
 unfolding first_broken
-returns-then-is_broken c =
-    search_at (broken (tables c.args.book.now)) (omega arith)
-    c.loop-rule.invariant.1 (sym c.is_broken.ensures ∙ c.if-is_broken.true)
+returns-then-is_broken c = (
+  omega arith,
+  sym (search_at (broken (tables c.args.book.now)) (omega arith)
+      c.loop-rule.invariant.1 (sym c.is_broken.ensures ∙ c.if-is_broken.true)),
+)
 
 pub loop-rule-preserved : goal.loop-rule-preserved
 loop-rule-preserved c =
@@ -38,4 +40,4 @@ loop-rule-preserved c =
 
 pub returns : goal.returns
 unfolding first_broken
-returns c = search_out (broken (tables c.args.book.now)) (omega arith) (omega arith) c.loop-rule.invariant.1
+returns c = sym (search_out (broken (tables c.args.book.now)) (omega arith) (omega arith) c.loop-rule.invariant.1)

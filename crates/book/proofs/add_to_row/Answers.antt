@@ -3,6 +3,7 @@ use mathlib.Core.Path.{ap, ◌∙◌}
 use Prim.Native.Nat.{ℕ}
 use Rattle.sets.specs.Mask.{with}
 use Rattle.book.specs.Slice.{tables, with_row}
+use Rattle.book.specs.Tables.{number}
 use Rattle.book.proofs.add_to_row.Goals as goal
 
 pub returns : goal.returns
@@ -12,4 +13,4 @@ returns c =
     let row = c.row-mask.ensures in
     let changed = c.add.ensures in
     let stored = c.set_row.ensures in
-    (stored.0, stored.1 ∙ ap (λ (v : ℕ). with_row s.table s.r v d) (changed ∙ ap (λ (m : ℕ). with m s.i) row))
+    (stored.0, stored.1 ∙ ap (λ (v : ℕ). with_row (number s.table) s.r v d) (changed ∙ ap (λ (m : ℕ). with m s.i) row))

@@ -1,22 +1,24 @@
--- One digit more: 1844674407370955161 is the largest number that leaves room for one, and then only for 0 to 5.
-use native.Mathlib.Omega.{arith}
-use Rattle.decimal.proofs.DecimalLaws.{put_fits, put_over, put_large, put_none}
+-- One digit more: ten times the number in front, checked, and then the digit, checked.
+use Rattle.decimal.specs.Decimal.{sized}
+use Rattle.std.proofs.Common.{◌≡◌, Err, arith, sym, ◌∙◌, rules, ◌*◌, ap}
+use Rattle.decimal.proofs.DecimalLaws.{given_is, checked, larger}
 use Rattle.decimal.proofs.put.Goals as goal
 
-pub returns-then-n-lt1844674407370955161 : goal.returns-then-n-lt1844674407370955161
-returns-then-n-lt1844674407370955161 c = λ n e. put_fits _ _ n _ c.in-Is.is e (omega arith)
+pub returns-in_err-front : goal.returns-in_err-front
+returns-in_err-front c = λ n f.
+    let e : c.from_residual.result ≡ Err c.in_err-front.field-0.0 = search rules in
+    e ∙ larger _ n _ (sym c.in_err-front.was ∙ f) (omega arith)
 
-pub returns-then-digit-lt6 : goal.returns-then-digit-lt6
-returns-then-digit-lt6 c = λ n e. put_fits _ _ n _ c.in-Is.is e (omega arith)
+pub returns-in_err-tens : goal.returns-in_err-tens
+returns-in_err-tens c = λ n f.
+    let e : c.from_residual-in_err-tens.result ≡ Err c.in_err-tens.field-0.0 = search rules in
+    let v : c.in_ok-front.field-0 ≡ n = given_is n _ (sym c.in_ok-front.was ∙ f) in
+    let t = sym c.in_err-tens.was ∙ c.ok_or.ensures.value ∙ checked _ _ c.checked_mul.ensures in
+    e ∙ larger _ (n * 10) _ (t ∙ ap (λ m. sized (m * 10)) v) (omega arith)
 
-pub returns-else-digit-lt6 : goal.returns-else-digit-lt6
-returns-else-digit-lt6 c = λ n e. put_over _ _ n _ c.in-Is.is e (omega arith)
-
-pub returns-else-n-eq1844674407370955161 : goal.returns-else-n-eq1844674407370955161
-returns-else-n-eq1844674407370955161 c = λ n e. put_over _ _ n _ c.in-Is.is e (omega arith)
-
-pub returns-in-TooLarge : goal.returns-in-TooLarge
-returns-in-TooLarge c = λ n e. put_large _ n _ c.in-TooLarge.is e
-
-pub returns-in-NotDecimal : goal.returns-in-NotDecimal
-returns-in-NotDecimal c = λ n e. put_none _ n _ c.in-NotDecimal.is e
+pub returns : goal.returns
+returns c = λ n f.
+    let v : c.in_ok-front.field-0 ≡ n = given_is n _ (sym c.in_ok-front.was ∙ f) in
+    let t = sym c.in_ok-tens.was ∙ c.ok_or.ensures.value ∙ checked _ _ c.checked_mul.ensures in
+    let tens : c.in_ok-tens.tens ≡ c.in_ok-front.field-0 * 10 = given_is _ _ t in
+    c.ok_or-2.ensures.value ∙ checked _ _ c.checked_add.ensures ∙ ap sized (omega arith)

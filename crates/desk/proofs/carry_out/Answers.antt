@@ -19,7 +19,7 @@ activate-requires c =
     let is = c.in-11.is in
     let a = a_lt d s.kind s.a s.b s.c c.requires.1 11 1 (omega arith) (omega arith) refl in
     let b = b_lt d s.kind s.a s.b s.c c.requires.1 11 1 (omega arith) (omega arith) refl in
-    (search rules, a, b)
+    (a, b)
 
 pub open_order-requires : goal.open_order-requires
 unfolding all row_of table
@@ -27,7 +27,7 @@ open_order-requires c =
     let s = c.args in
     let d = tables s.book.now in
     let is = c.in-12.is in
-    (search rules, a_lt d s.kind s.a s.b s.c c.requires.1 12 1 (omega arith) (omega arith) refl)
+    a_lt d s.kind s.a s.b s.c c.requires.1 12 1 (omega arith) (omega arith) refl
 
 pub allocate-requires : goal.allocate-requires
 unfolding all row_of table
@@ -46,14 +46,13 @@ close_order-requires c =
     let s = c.args in
     let d = tables s.book.now in
     let is = c.in-14.is in
-    (search rules, a_lt d s.kind s.a s.b s.c c.requires.1 14 1 (omega arith) (omega arith) refl)
+    a_lt d s.kind s.a s.b s.c c.requires.1 14 1 (omega arith) (omega arith) refl
 
 pub define-requires : goal.define-requires
 unfolding all row_of table
 define-requires c =
     let s = c.args in
     let d = tables s.book.now in (
-      search rules,
       omega arith,
       a_lt d s.kind s.a s.b s.c c.requires.1 1 3
           c.in-1-to-3.if-kind-lt1-own.false c.in-1-to-3.if-kind-lt4-own.true refl,
@@ -68,7 +67,7 @@ relate-requires c =
     c.in-4-to-7.if-kind-lt4-own.false c.in-4-to-7.if-kind-lt8-own.true refl in
     let b = b_lt d s.kind s.a s.b s.c c.requires.1 4 4
     c.in-4-to-7.if-kind-lt4-own.false c.in-4-to-7.if-kind-lt8-own.true refl in
-    (search rules, omega arith, a, b)
+    (search rules, a, b)
 
 pub assign-requires : goal.assign-requires
 unfolding all row_of table
@@ -79,7 +78,7 @@ assign-requires c =
     c.in-8-to-10.if-kind-lt8-own.false c.in-8-to-10.if-kind-lt11-own.true refl in
     let b = b_lt d s.kind s.a s.b s.c c.requires.1 8 3
     c.in-8-to-10.if-kind-lt8-own.false c.in-8-to-10.if-kind-lt11-own.true refl in
-    (search rules, c.staff_table.ensures.1, a, b)
+    (search rules, a, b)
 
 pub overflow_sub-kind-in-15-to-17 : goal.overflow_sub-kind-in-15-to-17
 overflow_sub-kind-in-15-to-17 c =
@@ -106,7 +105,7 @@ take_back-requires c =
     low c.in-15-to-17.if-kind-lt18-own.true refl in
     let b = b_lt d s.kind s.a s.b s.c c.requires.1 15 3
     low c.in-15-to-17.if-kind-lt18-own.true refl in
-    (search rules, c.staff_table-in-15-to-17.ensures.1, a, b)
+    (a, b)
 
 pub unrelate-requires : goal.unrelate-requires
 unfolding all row_of table
@@ -117,7 +116,7 @@ unrelate-requires c =
     c.in-18-to-21.if-kind-lt18-own.false c.in-18-to-21.if-kind-lt22-own.true refl in
     let b = b_lt d s.kind s.a s.b s.c c.requires.1 18 4
     c.in-18-to-21.if-kind-lt18-own.false c.in-18-to-21.if-kind-lt22-own.true refl in
-    (search rules, omega arith, a, b)
+    (a, b)
 
 pub returns-in-11 : goal.returns-in-11
 returns-in-11 c = rw c.in-11.is (from_activate c.activate.ensures)
@@ -140,12 +139,12 @@ returns-in-1-to-3 c =
 pub returns-in-4-to-7 : goal.returns-in-4-to-7
 returns-in-4-to-7 c =
     from_relate _ c.in-4-to-7.if-kind-lt4-own.false c.in-4-to-7.if-kind-lt8-own.true
-    c.relate.ensures
+    (rw c.pair_table.ensures at c.relate.ensures)
 
 pub returns-in-8-to-10 : goal.returns-in-8-to-10
 returns-in-8-to-10 c =
     from_assign _ c.in-8-to-10.if-kind-lt8-own.false c.in-8-to-10.if-kind-lt11-own.true
-    (rw c.staff_table.ensures.0 at c.assign.ensures)
+    (rw c.staff_table.ensures at c.assign.ensures)
 
 pub returns-in-15-to-17 : goal.returns-in-15-to-17
 returns-in-15-to-17 c =
@@ -154,12 +153,12 @@ returns-in-15-to-17 c =
     c.in-15-to-17.if-kind-lt11-own.false
     c.in-15-to-17.in_default-own.rest in
     from_take_back _ low c.in-15-to-17.if-kind-lt18-own.true
-    (rw c.staff_table-in-15-to-17.ensures.0 at c.take_back.ensures)
+    (rw c.staff_table-in-15-to-17.ensures at c.take_back.ensures)
 
 pub returns-in-18-to-21 : goal.returns-in-18-to-21
 returns-in-18-to-21 c =
     from_unrelate _ c.in-18-to-21.if-kind-lt18-own.false c.in-18-to-21.if-kind-lt22-own.true
-    c.unrelate.ensures
+    (rw c.pair_table-in-18-to-21.ensures at c.unrelate.ensures)
 
 pub returns-in_default : goal.returns-in_default
 returns-in_default c = from_none_below _ _ _ c.requires.0.0 _ c.in_default.if-kind-lt1-own.true

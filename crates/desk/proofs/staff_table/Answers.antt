@@ -1,16 +1,20 @@
--- The code's three tables are the definition's, and one test of them all says that each is a table of the book.
-use mathlib.Core.Path.{refl}
+-- The code's three tables are the definition's.
+use mathlib.Core.Path.{◌≡◌, refl}
+use Prim.Native.Nat.{ℕ, zero, suc, ◌<◌}
 use native.Mathlib.Omega.{arith}
-use lib.Dec.{ltb}
-use borrow.Author.Tests.{ltb-true}
-use Rattle.sets.specs.Search.{all}
-use Rattle.sets.proofs.SearchLaws.{all_out}
-use Rattle.rules.specs.Book.{table_count}
+use Rattle.std.specs.Prelude.{slice_index_or}
+use Rattle.book.specs.declared.Table.TheVariants.{Sme}
+use Rattle.book.specs.Tables.{number}
+use Rattle.desk.specs.declared.TheConstants.{STAFF}
 use Rattle.desk.specs.Tables.{staff_tables, staff_table}
 use Rattle.desk.proofs.staff_table.Goals as goal
 
+at_place : (k : ℕ) → k < 3 → number (slice_index_or STAFF k Sme) ≡ staff_table k
+unfolding staff_tables staff_table
+at_place zero h = refl
+at_place (suc zero) h = refl
+at_place (suc (suc zero)) h = refl
+at_place (suc (suc (suc k))) h = absurd (omega arith)
+
 pub returns : goal.returns
-unfolding all staff_tables staff_table
-returns c =
-    let place = c.args.place in
-    (refl, ltb-true (staff_table place) table_count (all_out 3 (λ i. ltb (staff_table i) table_count) refl place (omega arith)))
+returns c = at_place c.args.place (omega arith)

@@ -18,4 +18,4 @@ pub returns : goal.returns
 returns c =
     let s = c.args in
     junior_owners (tables s.book.now) s.a s.b c.if-a-b.false
-    (sym c.reaches.ensures ∙ c.if-reaches.false) c.owners_conflict.ensures
+    (sym c.reaches.ensures ∙ c.if-reaches.false) c.gained_role.ensures c.owners_conflict.ensures

@@ -8,10 +8,10 @@ pub returns-then-tasks-ne0 : goal.returns-then-tasks-ne0
 returns-then-tasks-ne0 c =
     let s = c.args in
     own_told (tables s.book.now) s.a s.b c.row.ensures
-    c.owned_tasks-owned.ensures c.gain_of-gain.ensures c.meeting-tasks.ensures (omega arith) (omega arith)
+    c.owned_tasks-owned.ensures c.gained_role-gain.ensures c.meeting-tasks.ensures (omega arith) (omega arith)
 
 pub returns : goal.returns
 returns c =
     let s = c.args in
     own_none (tables s.book.now) s.a s.b c.row.ensures
-    c.owned_tasks-owned.ensures c.gain_of-gain.ensures c.meeting-tasks.ensures c.if-tasks-ne0.false
+    c.owned_tasks-owned.ensures c.gained_role-gain.ensures c.meeting-tasks.ensures c.if-tasks-ne0.false

@@ -1,25 +1,19 @@
--- 31 where a role has a clash, else what the subjects are asked.
-use mathlib.Core.Path.{refl}
-use mathlib.Core.List.{[], ◌∷◌}
-use Rattle.rules.specs.Numbers.{task_assignment, role_assignment}
+-- 31 where a role has a clash, else what is found of the subjects.
 use Rattle.book.specs.Slice.{tables}
-use Rattle.owners.specs.declared.Owner.TheVariants.{Role}
-use Rattle.gains.specs.Gains.{gain_of}
-use Rattle.gains.proofs.GainAnswers.{clash_told, clash_passed}
+use Rattle.gains.proofs.GainAnswers.{role_told, subject_told}
 use Rattle.gains.proofs.owners_conflict.Goals as goal
 
-pub returns-in-Owned : goal.returns-in-Owned
-unfolding task_assignment
-returns-in-Owned c =
+pub returns-in-Some : goal.returns-in-Some
+returns-in-Some c =
     let s = c.args in
-    clash_told (tables s.book.now) s.a s.b (task_assignment (gain_of s.gain)) (role_assignment (gain_of s.gain) ∷ []) 31 (gain_of s.gain) Role
-    (λ rest. refl) c.gain_of.ensures c.first_clash-found.ensures
-    c.in-Owned.is
+    role_told (tables s.book.now) s.gain s.b c.first_clash.ensures c.in-Some.is
 
-pub returns-in-Nothing : goal.returns-in-Nothing
-unfolding task_assignment
-returns-in-Nothing c =
+pub returns-in-Some-first_clash : goal.returns-in-Some-first_clash
+returns-in-Some-first_clash c =
     let s = c.args in
-    clash_passed (tables s.book.now) s.a s.b (task_assignment (gain_of s.gain)) (role_assignment (gain_of s.gain) ∷ []) 31 (gain_of s.gain) Role
-    (λ rest. refl) c.gain_of.ensures c.first_clash-found.ensures
-    c.in-Nothing.is c.subjects_conflict.ensures
+    subject_told (tables s.book.now) s.gain s.b c.first_clash.ensures c.in_default.is c.first_clash-2.ensures c.in-Some-first_clash.is
+
+pub returns-in-None : goal.returns-in-None
+returns-in-None c =
+    let s = c.args in
+    subject_told (tables s.book.now) s.gain s.b c.first_clash.ensures c.in_default.is c.first_clash-2.ensures c.in-None.is

@@ -31,7 +31,7 @@ and_first false t e = refl
 
 pub loop-order-init : goal.loop-order-init
 unfolding joined all
-loop-order-init c = (omega arith, refl, search rules, λ k h. get_or-replicate 64 k 0 0 h)
+loop-order-init c = (omega arith, refl, λ k h. get_or-replicate 64 k 0 0 h)
 
 pub returns-then-not-is_dme_apart_in : goal.returns-then-not-is_dme_apart_in
 unfolding dme_apart
@@ -45,28 +45,22 @@ pub loop-order-preserved : goal.loop-order-preserved
 loop-order-preserved c =
     let s = c.args in
     let d = tables s.book.now in
-    let sized = read_sized (words s.book.now) (λ i h. (c.type_inv.book i).fits) in
+    let sized = read_sized (words s.book.now) (λ i h. c.fits-book i) in
     let l = c.loop-order in
     let told = c.is_dme_apart_in.ensures in (
       omega arith,
       all_on (dme_apart_in d) l.invariant.1 (sym told.0 ∙ c.if-not-is_dme_apart_in.false),
-      told.1.0,
       λ k h.
-          told.1.1 k h ∙ ap₂ bit_or (l.invariant.3 k h) (sym (held_open d sized l.order k h)) ∙ anywhere_on (held_in d k) l.order (omega arith),
+          told.1 k h ∙ ap₂ bit_or (l.invariant.2 k h) (sym (held_open d sized l.order k h)) ∙ anywhere_on (held_in d k) l.order (omega arith),
     )
 
 pub are_free-requires : goal.are_free-requires
 are_free-requires c =
     let s = c.args in
     let d = tables s.book.now in
-    let sized = read_sized (words s.book.now) (λ i h. (c.type_inv.book i).fits) in
-    let l = c.loop-order in (
-      search rules,
-      search rules,
-      l.invariant.2,
-      λ k h out.
-          all-orders d l.order k (omega arith) l.invariant.0 (l.invariant.3 k h) ∙ nothing_anywhere d sized (search rules) k h out,
-    )
+    let sized = read_sized (words s.book.now) (λ i h. c.fits-book i) in
+    let l = c.loop-order in
+    λ k h out. all-orders d l.order k (omega arith) l.invariant.0 (l.invariant.2 k h) ∙ nothing_anywhere d sized (search rules) k h out
 
 pub returns : goal.returns
 unfolding sme_apart dme_apart
@@ -74,6 +68,6 @@ returns c =
     let d = tables c.args.book.now in
     let l = c.loop-order in
     c.are_free.ensures
-    ∙ all_alike (d.row SME) _ (held_anywhere d) (λ k h. all-orders d l.order k (omega arith) l.invariant.0 (l.invariant.3 k h))
+    ∙ all_alike (d.row SME) _ (held_anywhere d) (λ k h. all-orders d l.order k (omega arith) l.invariant.0 (l.invariant.2 k h))
     ∙ and_first _ _ (all_done (dme_apart_in d) 64 (omega arith) (omega arith) l.invariant.1)
     ∙ apart_kept d

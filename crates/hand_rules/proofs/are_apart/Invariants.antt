@@ -3,7 +3,6 @@
 use mathlib.Core.Path.{◌≡◌}
 use mathlib.Core.Bool.{true}
 use Prim.Native.Nat.{ℕ, ◌-◌, ◌≤◌, ◌<◌, ◌^◌}
-use lib.ListN.{length}
 use Rattle.sets.specs.Search.{all}
 use Rattle.book.specs.Slice.{words, tables}
 use Rattle.hand_rules.specs.Hands.{dme_apart_in}
@@ -24,7 +23,4 @@ held_below d p k = joined p (held_in d k) (2 ^ 64 - 1)
 abbrev pub invariant-loop-order : goal.invariant-loop-order
 invariant-loop-order l =
     (l.order ≤ 64) × (all l.order (dme_apart_in (tables l.book)) ≡ true)
-    × (length l.anywhere ≡ 64) × ((k : ℕ) → k < 64 → words l.anywhere k ≡ held_below (tables l.book) l.order k)
-
-abbrev pub decreases-loop-order : goal.decreases-loop-order
-decreases-loop-order l = 64 - l.order
+    × ((k : ℕ) → k < 64 → words l.anywhere k ≡ held_below (tables l.book) l.order k)

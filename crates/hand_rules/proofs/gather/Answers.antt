@@ -6,19 +6,14 @@ use borrow.Author.Rules.{rules}
 use Rattle.hand_rules.proofs.gather.Goals as goal
 
 pub loop-s-init : goal.loop-s-init
-loop-s-init c = (omega arith, search rules, λ k h. (λ m. absurd (omega arith), λ m. refl))
+loop-s-init c = (search rules, λ k h. (λ m. absurd (omega arith), λ m. refl))
 
 pub loop-s-preserved : goal.loop-s-preserved
 loop-s-preserved c =
     let a = c.args in
     let l = c.loop-s in
-    let full : length l.anywhere ≡ 64 = l.invariant.1 in (
-      omega arith,
-      simp length-set full,
-      gathered_on a.held.now a.anywhere.now l.anywhere l.s (omega arith) (omega arith) l.invariant.2,
-    )
+    let full : length l.anywhere ≡ 64 = l.invariant.0 in
+    (simp length-set full, gathered_on a.held.now a.anywhere.now l.anywhere l.s (omega arith) (omega arith) l.invariant.1)
 
 pub returns : goal.returns
-returns c =
-    let l = c.loop-s in
-    (l.invariant.1, λ k h. (l.invariant.2 k h).0 (omega arith))
+returns c k h = (c.loop-s.invariant.1 k h).0 (omega arith)

@@ -19,7 +19,7 @@ pub returns-then-mixed_row-eq0 : goal.returns-then-mixed_row-eq0
 returns-then-mixed_row-eq0 c =
     let s = c.args in
     let d = tables s.book.now in
-    let sized = read_sized (words s.book.now) (λ i h. (c.type_inv.book i).fits) in
+    let sized = read_sized (words s.book.now) (λ i h. c.fits-book i) in
     let empty = sym c.mixed_row.ensures ∙ c.if-mixed_row-eq0.true in
     sym (bound_alone d sized s.u (omega arith) (λ v e. zero_none v empty (mixed_in (d.row SB) (d.row RB) s.u v e)))
 
@@ -28,7 +28,7 @@ unfolding bound_together
 returns c =
     let s = c.args in
     let d = tables s.book.now in
-    let sized = read_sized (words s.book.now) (λ i h. (c.type_inv.book i).fits) in
+    let sized = read_sized (words s.book.now) (λ i h. c.fits-book i) in
     let narrow = c.subject_group-subjects.ensures in
     let wide = c.bound_with.ensures ∙ ap (close 64 (mixed d SB RB)) narrow ∙ around d sized s.u (omega arith) in
     c.is_together_with.ensures ∙ ap₂ (λ (x y : ℕ). all 64 (together_in d x y s.u)) narrow wide

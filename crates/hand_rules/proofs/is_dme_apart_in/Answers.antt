@@ -14,7 +14,6 @@ use Rattle.rules.specs.Audit.{implies}
 use Rattle.rules.proofs.BookLaws.{read_sized}
 use Rattle.book.specs.Slice.{words, tables}
 use Rattle.hand_rules.proofs.ApartLaws.{all_alike, shut_noted, nothing_held}
-use borrow.Author.Rules.{rules}
 use Rattle.hand_rules.proofs.is_dme_apart_in.Goals as goal
 
 -- What is asked of an order, by whether it is open.
@@ -32,26 +31,18 @@ pub returns-then-row-eq0 : goal.returns-then-row-eq0
 unfolding is_open
 returns-then-row-eq0 c =
     let s = c.args in
-    let sized = read_sized (words s.book.now) (λ i h. (c.type_inv.book i).fits) in
+    let sized = read_sized (words s.book.now) (λ i h. c.fits-book i) in
     let shut = ap (λ (m : ℕ). not (eqb m 0)) (sym c.row.ensures) ∙ ap not (eq-eqb _ 0 c.if-row-eq0.true) in
-    (sym (when-shut _ shut), (search rules, λ k h. shut_noted (tables s.book.now) sized s.order k _ h shut))
-
-pub gather-requires : goal.gather-requires
-gather-requires c = (c.note_order.ensures.0, search rules)
+    (sym (when-shut _ shut), λ k h. shut_noted (tables s.book.now) sized s.order k _ h shut)
 
 pub are_free-requires : goal.are_free-requires
 are_free-requires c =
     let s = c.args in
     let d = tables s.book.now in
     let sized = read_sized (words s.book.now)
-    (λ i h. (c.type_inv.book i).fits) in
-    let noted = c.note_order.ensures in (
-      search rules,
-      search rules,
-      noted.0,
-      λ k h out.
-          first-noted d s.order k h (noted.1 k h) ∙ nothing_held d sized c.requires.0.1 s.order k h out,
-    )
+    (λ i h. c.fits-book i) in
+    let noted = c.note_order.ensures in
+    λ k h out. first-noted d s.order k h (noted k h) ∙ nothing_held d sized c.requires.0.1 s.order k h out
 
 pub returns : goal.returns
 unfolding is_open
@@ -63,7 +54,7 @@ returns c =
     let opened = ap (λ (m : ℕ). not (eqb m 0)) (sym c.row.ensures)
     ∙ ap not (ne_eqb _ 0 c.if-row-eq0.false) in (
       c.are_free.ensures
-          ∙ all_alike (d.row DME) _ (held_by d s.order) (λ k h. first-noted d s.order k h (noted.1 k h))
+          ∙ all_alike (d.row DME) _ (held_by d s.order) (λ k h. first-noted d s.order k h (noted k h))
           ∙ sym (when-open _ opened),
-      (gathered.0, λ k h. gathered.1 k h ∙ ap (bit_or (words s.anywhere.now k)) (first-noted d s.order k h (noted.1 k h))),
+      λ k h. gathered k h ∙ ap (bit_or (words s.anywhere.now k)) (first-noted d s.order k h (noted k h)),
     )

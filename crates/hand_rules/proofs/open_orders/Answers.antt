@@ -10,5 +10,5 @@ use Rattle.hand_rules.proofs.open_orders.Goals as goal
 pub returns : goal.returns
 returns c p l =
     let s = c.args in
-    let sized = read_sized (words s.book.now) (λ i h. (c.type_inv.book i).fits) in
+    let sized = read_sized (words s.book.now) (λ i h. c.fits-book i) in
     ap (λ (m : ℕ). bit m p) c.meeting.ensures ∙ open_orders (tables s.book.now) sized p l

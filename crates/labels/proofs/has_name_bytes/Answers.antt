@@ -1,20 +1,14 @@
-use mathlib.Core.Path.{refl}
-use native.Mathlib.Omega.{arith}
-use Rattle.sets.specs.Search.{all}
-use Rattle.labels.proofs.NameLaws.{bytes_on, bytes_fail, bytes_done}
+-- The bytes are tested one by one.
+use Rattle.std.proofs.Common.{◌∙◌}
+use borrow.Author.Rules.{rules}
+use borrow.Author.Tests.{tests}
+use Rattle.std.proofs.lemmas.Iterator.{YieldsList-from_slice}
+use Rattle.std.proofs.lemmas.Iterator.Search.{all_from_yields_List}
+use Rattle.labels.specs.Names.{is_name_byte}
+use Rattle.labels.proofs.NameLaws.{bytes_listed}
 use Rattle.labels.proofs.has_name_bytes.Goals as goal
 
-pub loop-i-init : goal.loop-i-init
-unfolding all
-loop-i-init c = (omega arith, refl, refl)
-
-pub returns-then-not-is_name_byte : goal.returns-then-not-is_name_byte
-returns-then-not-is_name_byte c = bytes_fail _ c.loop-i.i _ (omega arith) c.is_name_byte.ensures c.if-not-is_name_byte.true
-
-pub loop-i-preserved : goal.loop-i-preserved
-loop-i-preserved c =
-    let l = c.loop-i in
-    (omega arith, l.invariant.1, bytes_on _ l.i _ (omega arith) c.is_name_byte.ensures l.invariant.2 c.if-not-is_name_byte.false)
-
 pub returns : goal.returns
-returns c = bytes_done _ c.loop-i.i (omega arith) c.loop-i.invariant.2
+returns c =
+    all_from_yields_List is_name_byte _ _ c.all.result c.all.ensures.ran (YieldsList-from_slice c.args.word.now (cc)) (λ x b q k. search (rules, tests))
+    ∙ bytes_listed c.args.word.now

@@ -1,17 +1,18 @@
--- Each return has its law; the last reads in the row.
-use mathlib.Core.Path.{◌∙◌}
+-- In the row the letter is read; behind it, and where there is no row, there are blanks.
+use mathlib.Core.Path.{sym, ◌∙◌}
 use native.Mathlib.Omega.{arith}
-use Rattle.labels.proofs.NameLaws.{letter_no_sort, letter_no_thing, letter_behind, letter_within}
+use Rattle.labels.proofs.NameLaws.{letter_no_thing, letter_behind, letter_within}
 use Rattle.labels.proofs.letter.Goals as goal
 
-pub returns-then-sort-ge-SORTS : goal.returns-then-sort-ge-SORTS
-returns-then-sort-ge-SORTS c = letter_no_sort _ _ _ _ c.if-sort-ge-SORTS.true
+pub returns-in-Some : goal.returns-in-Some
+returns-in-Some c =
+    let at = c.in-Some.ensures in
+    c.letter.ensures ∙ letter_within _ _ _ _ at.0.0 _ at.0.1 c.if-i-lt-WIDTH.true at.1
 
-pub returns-then-n-ge-THINGS : goal.returns-then-n-ge-THINGS
-returns-then-n-ge-THINGS c = letter_no_thing _ _ _ _ (omega arith) c.if-n-ge-THINGS.true
+pub returns-in_default : goal.returns-in_default
+returns-in_default c =
+    let at = c.in-Some.ensures in
+    letter_behind _ _ _ _ at.0.0 at.0.1 (omega arith)
 
-pub returns-then-i-ge-WIDTH : goal.returns-then-i-ge-WIDTH
-returns-then-i-ge-WIDTH c = letter_behind _ _ _ _ (omega arith) (omega arith) c.if-i-ge-WIDTH.true
-
-pub returns : goal.returns
-returns c = c.letter.ensures ∙ letter_within _ _ _ _ (omega arith) _ (omega arith) (omega arith) c.row_at.ensures
+pub returns-in_default-2 : goal.returns-in_default-2
+returns-in_default-2 c = sym (letter_no_thing _ _ _ _ c.in_default.ensures)

@@ -22,10 +22,10 @@ returns-then-not-active_owned c =
 pub cell_refusal-requires : goal.cell_refusal-requires
 cell_refusal-requires c =
     let s = c.args in
-    let sized = read_sized (words s.book.now) (λ i h. (c.type_inv.book i).fits) in
+    let sized = read_sized (words s.book.now) (λ i h. c.fits-book i) in
     let owned = sym c.active_owned.ensures ∙ c.if-not-active_owned.false in
     let role = active_bounds (tables s.book.now) s.c sized owned c.row.ensures in
-    (omega arith, omega arith, omega arith, role.0, role.1)
+    (omega arith, omega arith, role.0, role.1)
 
 pub returns : goal.returns
 returns c =

@@ -8,4 +8,4 @@ use Rattle.orders.proofs.close_order.Goals as goal
 
 pub returns : goal.returns
 unfolding decide or_else state_refusal conflicts first_of change
-returns c = let stored = c.set_order.ensures in settled_changed refl refl stored.0 stored.1
+returns c = let stored = c.set_order.ensures in settled_changed refl stored.0 stored.1

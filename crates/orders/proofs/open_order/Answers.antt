@@ -4,8 +4,9 @@ use mathlib.Core.Bool.{true, false, not}
 use native.Mathlib.Omega.{arith}
 use borrow.Author.Tests.{eq-eqb, ne_eqb}
 use Rattle.rules.specs.Requests.{open_order, is_open, change}
-use Rattle.rules.specs.Numbers.{accepted, say, state_refusal, conflicts, first_of}
+use Rattle.rules.specs.Numbers.{accepted, state_refusal, conflicts, first_of}
 use Rattle.book.specs.Slice.{tables, Full}
+use Rattle.answers.specs.declared.Refusal.TheVariants.{AlreadySet}
 use Rattle.deeds.proofs.OutcomeLaws.{decide_refused, decide_conflict, settled_kept, settled_changed}
 use Rattle.deeds.proofs.CascadeLaws.{given_yes, given_no}
 use Rattle.orders.proofs.open_order.Goals as goal
@@ -18,7 +19,7 @@ returns-then-row-ne0 c =
     let mask = c.row.ensures in
     let full : Full s.book.now = omega arith in
     let is_set : is_open d s.a ≡ true = ap not (ne_eqb _ 0 (λ z. c.if-row-ne0.true (mask ∙ z))) in
-    settled_kept (decide_refused d open_order s.a 0 s.c (say 5) (given_yes _ _ accepted is_set) refl) refl full
+    settled_kept (decide_refused d open_order s.a 0 s.c AlreadySet (given_yes _ _ accepted is_set)) full
 
 pub returns : goal.returns
 unfolding state_refusal is_open conflicts first_of change
@@ -28,4 +29,4 @@ returns c =
     let mask = c.row.ensures in
     let unset : is_open d s.a ≡ false = ap not (eq-eqb _ 0 (sym mask ∙ c.if-row-ne0.false)) in
     let stored = c.set_order.ensures in
-    settled_changed (decide_conflict d open_order s.a 0 s.c accepted accepted (given_no _ _ _ unset refl) refl refl) refl stored.0 stored.1
+    settled_changed (decide_conflict d open_order s.a 0 s.c (given_no _ _ _ unset refl) refl) stored.0 stored.1

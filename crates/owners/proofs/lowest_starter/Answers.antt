@@ -10,6 +10,4 @@ use Rattle.owners.proofs.lowest_starter.Goals as goal
 
 pub returns : goal.returns
 returns c =
-    c.lowest.ensures
-    ∙ ap₂ (λ (x y : ℕ). lowest (bit (bit_and x y))) c.starters.ensures c.starters-2.ensures
-    ∙ lowest_same _ _ (λ o l. bit-and _ _ o)
+    rw (ap₂ (λ (x y : ℕ). lowest (bit (bit_and x y))) c.starters.ensures c.starters-2.ensures ∙ lowest_same _ _ (λ o l. bit-and _ _ o)) at c.first.ensures

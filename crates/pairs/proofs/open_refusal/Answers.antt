@@ -3,8 +3,8 @@ use mathlib.Core.Path.{refl}
 use Rattle.deeds.proofs.CascadeLaws.{lowest_yes, lowest_no}
 use Rattle.pairs.proofs.open_refusal.Goals as goal
 
-pub returns-then-order-lt64 : goal.returns-then-order-lt64
-returns-then-order-lt64 c = lowest_yes _ _ _ c.lowest_open-order.ensures c.if-order-lt64.true
+pub returns-in-Some : goal.returns-in-Some
+returns-in-Some c = lowest_yes _ _ _ c.in-Some.ensures
 
-pub returns : goal.returns
-returns c = lowest_no _ _ _ c.lowest_open-order.ensures c.if-order-lt64.false refl
+pub returns-in-None : goal.returns-in-None
+returns-in-None c = lowest_no _ _ _ c.in-None.ensures refl

@@ -14,4 +14,4 @@ returns-then-joined_cells-eq0 c =
     let s = c.args in
     let d = tables s.book.now in
     let none = cells_none (d.cell s.order) 64 (omega arith) (sym c.joined_cells.ensures ∙ c.if-joined_cells-eq0.true) in
-    lowest_end 64 (cell_bad d s.order) (λ t h. bad_cell_lem d s.order t (omega arith) h ∙ zero_word _ refl (none t h))
+    sym (lowest_end 64 (cell_bad d s.order) (λ t h. bad_cell_lem d s.order t (omega arith) h ∙ zero_word _ refl (none t h)))

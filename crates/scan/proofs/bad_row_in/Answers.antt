@@ -1,51 +1,54 @@
--- By the table's number: its test is asked of each row.
-use mathlib.Core.Path.{◌≡◌, ap, ◌∙◌}
-use native.Mathlib.Omega.{arith}
-use Rattle.rules.specs.Book.{tasks, roles, subjects, orders, row_tests}
+-- Table by table: its test is asked of each row.
+use mathlib.Core.Path.{ap}
+use Rattle.rules.specs.Book.{tasks, roles, subjects, row_tests}
+use Rattle.book.specs.declared.Table.{Table}
+use Rattle.book.specs.Tables.{number}
 use Rattle.book.specs.Slice.{tables}
-use Rattle.scan.proofs.BlockLaws.{row_test, pair_test, mask_rows, order_rows, active_rows}
+use Rattle.book.proofs.TableLaws.{number_lt}
+use Rattle.scan.proofs.BlockLaws.{row_test, pair_test, mask_rows, order_rows, active_rows, found_same}
 use Rattle.scan.proofs.bad_row_in.Goals as goal
 
-pub returns-in-4 : goal.returns-in-4
-unfolding row_tests
-returns-in-4 c =
-    let s = c.args in
-    let known = c.head-roles.ensures in
-    c.bad_mask_in.ensures ∙ mask_rows (tables s.book.now) s.table (omega arith) roles roles (ap row_test c.in-4.is) known known
-
-pub returns-in-5 : goal.returns-in-5
-unfolding row_tests
-returns-in-5 c =
-    let s = c.args in
-    c.bad_mask_in-in-5.ensures
-    ∙ mask_rows (tables s.book.now) s.table (omega arith) roles tasks (ap row_test c.in-5.is)
-    c.head-roles.ensures c.head-tasks.ensures
-
-pub returns-in-6 : goal.returns-in-6
-unfolding row_tests
-returns-in-6 c =
-    let s = c.args in
-    c.bad_mask_in-in-6.ensures
-    ∙ mask_rows (tables s.book.now) s.table (omega arith) subjects roles (ap row_test c.in-6.is)
-    c.head-subjects.ensures c.head-roles.ensures
-
-pub returns-in-7 : goal.returns-in-7
-returns-in-7 c =
-    let s = c.args in
-    c.bad_active_in.ensures
-    ∙ active_rows (tables s.book.now) s.table (omega arith) c.in-7.is
-    c.head-subjects.ensures c.head-roles.ensures
-
-pub returns-in-0-to-3 : goal.returns-in-0-to-3
-returns-in-0-to-3 c =
+pub returns-in-Sme : goal.returns-in-Sme
+returns-in-Sme c =
     let s = c.args in
     let known = c.head-tasks.ensures in
-    c.bad_mask_in-in-0-to-3.ensures ∙ mask_rows (tables s.book.now) s.table (omega arith) tasks tasks (pair_test s.table (omega arith)) known known
+    let same = mask_rows (tables s.book.now) (number s.table) (number_lt s.table) tasks tasks (pair_test s.table c.in-Sme.is) known known in
+    found_same _ _ _ same c.bad_mask_in.ensures
 
-pub returns-in_default : goal.returns-in_default
+pub returns-in-Juniors : goal.returns-in-Juniors
 unfolding row_tests
-returns-in_default c =
+returns-in-Juniors c =
     let s = c.args in
-    let last : s.table ≡ orders = omega arith in
-    c.bad_mask_in-in_default.ensures
-    ∙ order_rows (tables s.book.now) s.table (omega arith) (ap row_test last) c.head-tasks.ensures
+    let test = ap (λ (t : Table). row_test (number t)) c.in-Juniors.is in
+    let same = mask_rows (tables s.book.now) (number s.table) (number_lt s.table) roles roles test c.head-roles.ensures c.head-roles.ensures in
+    found_same _ _ _ same c.bad_mask_in-in-Juniors.ensures
+
+pub returns-in-TasksOf : goal.returns-in-TasksOf
+unfolding row_tests
+returns-in-TasksOf c =
+    let s = c.args in
+    let test = ap (λ (t : Table). row_test (number t)) c.in-TasksOf.is in
+    let same = mask_rows (tables s.book.now) (number s.table) (number_lt s.table) roles tasks test c.head-roles.ensures c.head-tasks.ensures in
+    found_same _ _ _ same c.bad_mask_in-in-TasksOf.ensures
+
+pub returns-in-RolesOf : goal.returns-in-RolesOf
+unfolding row_tests
+returns-in-RolesOf c =
+    let s = c.args in
+    let test = ap (λ (t : Table). row_test (number t)) c.in-RolesOf.is in
+    let same = mask_rows (tables s.book.now) (number s.table) (number_lt s.table) subjects roles test c.head-subjects.ensures c.head-roles.ensures in
+    found_same _ _ _ same c.bad_mask_in-in-RolesOf.ensures
+
+pub returns-in-Active : goal.returns-in-Active
+returns-in-Active c =
+    let s = c.args in
+    let same = active_rows (tables s.book.now) (number s.table) (number_lt s.table) (ap number c.in-Active.is) c.head-subjects.ensures c.head-roles.ensures in
+    found_same _ _ _ same c.bad_active_in.ensures
+
+pub returns-in-Orders : goal.returns-in-Orders
+unfolding row_tests
+returns-in-Orders c =
+    let s = c.args in
+    let test = ap (λ (t : Table). row_test (number t)) c.in-Orders.is in
+    let same = order_rows (tables s.book.now) (number s.table) (number_lt s.table) test c.head-tasks.ensures in
+    found_same _ _ _ same c.bad_mask_in-in-Orders.ensures

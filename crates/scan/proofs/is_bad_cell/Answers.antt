@@ -6,14 +6,16 @@ use Rattle.rules.specs.Book.{names}
 use Rattle.scan.proofs.BadLaws.{names_low, outside_order_lem, without_role, role_unknown, role_known}
 use borrow.Author.Rules.{rules}
 use Rattle.scan.proofs.is_bad_cell.Goals as goal
+use Rattle.scan.proofs.is_bad_cell.Goals.{then-not-in_order-via-then-not-in_order, then-not-in_order-via-else-not-in_order+then-not-has_role}
 
 pub returns-then-not-in_order : goal.returns-then-not-in_order
-returns-then-not-in_order c = let s = c.args in outside_order_lem s.roles s.subjects s.v c.if-not-in_order.true
-
-pub returns-then-not-has_role : goal.returns-then-not-has_role
-returns-then-not-has_role c =
+returns-then-not-in_order c =
     let s = c.args in
-    without_role s.roles s.subjects s.v c.if-not-in_order.false (sym c.has_role.ensures ∙ c.if-not-has_role.true)
+    elim c.then-not-in_order.branch [
+      | then-not-in_order-via-then-not-in_order w ↦ outside_order_lem s.roles s.subjects s.v w.if-not-in_order.true
+      | then-not-in_order-via-else-not-in_order+then-not-has_role w ↦
+          without_role s.roles s.subjects s.v w.if-not-in_order.false (sym w.has_role.ensures ∙ w.if-not-has_role.true)
+    ]
 
 pub returns-then-not-has : goal.returns-then-not-has
 returns-then-not-has c =

@@ -17,8 +17,8 @@ returns-then-has c =
     c.meets.ensures ∙ mask_strays s.known row.result (search rules) (search rules)
     ∙ ap₂ (λ (t : Bool) (v : ℕ). bad_word v (bad_mask t s.known v)) defined row.ensures
 
-pub returns : goal.returns
-returns c =
+pub returns-else-has : goal.returns-else-has
+returns-else-has c =
     let s = c.args in
     let row = c.row-v in
     let undefined : false ≡ bit s.owners s.r = sym c.if-has.false ∙ c.has.ensures in

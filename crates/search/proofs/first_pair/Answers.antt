@@ -1,66 +1,47 @@
-use mathlib.Core.Path.{refl, ◌∙◌}
-use Prim.Native.Nat.{◌<◌}
+use mathlib.Core.Path.{refl, sym, ap, ◌∙◌}
+use Prim.Native.Nat.{ℕ}
 use native.Mathlib.Omega.{arith}
-use Rattle.sets.specs.Search.{paired}
-use Rattle.sets.proofs.Logic.{not_both}
+use Rattle.sets.specs.Mask.{bit}
+use Rattle.sets.specs.Search.{lowest, paired}
 use Rattle.sets.proofs.MaskLaws.{without_old}
-use Rattle.sets.proofs.MemberLaws.{lowest_lt, rest_lt, seen_none}
+use Rattle.sets.proofs.MemberLaws.{seen_none}
 use Rattle.rules.specs.Numbers.{between}
 use Rattle.book.specs.Slice.{tables}
-use Rattle.search.proofs.PairLaws.{nothing_at, at_once, none_outside, pair_at, pair_on}
-use borrow.Author.Rules.{rules}
+use Rattle.search.proofs.PairLaws.{nothing_at, none_outside, pair_at, pair_on, lowest_none}
+use Rattle.book.specs.Tables.{number}
 use Rattle.search.proofs.first_pair.Goals as goal
 
 pub search-init : goal.search-init
 search-init c =
     let s = c.args in
-    (search rules, λ k e. e, λ k h e. none_outside ((tables s.book.now).row s.table) s.xs s.ys k e, refl)
-
-pub row-requires : goal.row-requires
-row-requires c =
-    let l = c.search in
-    let x : c.lowest-x.result < 64 = omega (arith, c.lowest-x.ensures, lowest_lt l.left (omega arith) l.invariant.0) in
-    search rules
-
-pub loop-y-init : goal.loop-y-init
-loop-y-init c = (c.lowest-y.ensures, c.search.invariant.3)
-
-pub loop-y-preserved : goal.loop-y-preserved
-loop-y-preserved c =
-    let has = c.has in
-    absurd (not_both has.result (at_once _ c.loop-y.invariant.0 (omega arith) has.ensures) c.if-has.false)
-
-pub search-smaller : goal.search-smaller
-search-smaller c =
-    let l = c.search in
-    omega (arith, c.rest-left.ensures, rest_lt l.left (omega arith) l.invariant.0)
+    rw (c.into_iter-x-iterator.ensures.into_iter_gives, c.each-x-items.ensures)
+    (λ k e. e, λ k h e. none_outside ((tables s.book.now).row (number s.table)) s.xs s.ys k e, refl)
 
 pub search-preserved : goal.search-preserved
 search-preserved c =
     let s = c.args in
     let l = c.search in
+    let v = c.in-Some.ensures.steps in
     let inner = c.loop-y in
-    rw c.rest-left.ensures (
-      omega (arith, rest_lt l.left (omega arith) l.invariant.0),
-      λ k e. l.invariant.1 k (without_old l.left _ k e),
-      pair_on ((tables s.book.now).row s.table) s.xs s.ys (omega arith) l.invariant.0 l.invariant.1
-          c.lowest-x.ensures c.row.ensures inner.invariant.0
-          (omega arith) l.invariant.2,
+    let none = sym inner.invariant.0 ∙ c.in-None-y.ensures.steps.0 in
+    rw v.rest (
+      λ k e. l.invariant.0 k (without_old l.x-iterator.left _ k e),
+      pair_on ((tables s.book.now).row (number s.table)) s.xs s.ys v.some v.fits l.invariant.0 v.at refl (lowest_none none) (omega arith) l.invariant.1,
       inner.invariant.1,
     )
 
-pub returns-after-search : goal.returns-after-search
-returns-after-search c =
+pub returns-in-None : goal.returns-in-None
+returns-in-None c =
     let s = c.args in
     let l = c.search in
-    let f = between ((tables s.book.now).row s.table) s.xs s.ys in
-    l.invariant.3 ∙ nothing_at f (seen_none (paired f) (rw c.search-test.false at l.invariant.2))
+    let f = between ((tables s.book.now).row (number s.table)) s.xs s.ys in
+    l.invariant.2 ∙ nothing_at f (seen_none (paired f) (rw c.in-None.ensures.steps.0 at l.invariant.1))
 
-pub returns-then-has : goal.returns-then-has
-returns-then-has c =
+pub returns-in-Some-y : goal.returns-in-Some-y
+returns-in-Some-y c =
     let s = c.args in
     let l = c.search in
-    let inner = c.loop-y in
-    pair_at ((tables s.book.now).row s.table) s.xs s.ys (omega arith) l.invariant.0 l.invariant.1
-    c.lowest-x.ensures c.row.ensures inner.invariant.0
-    (omega arith) l.invariant.2
+    let v = c.in-Some.ensures.steps in
+    let w = c.in-Some-y.ensures.steps in
+    let first = w.at ∙ ap (λ (m : ℕ). lowest (bit m)) c.loop-y.invariant.0 in
+    pair_at ((tables s.book.now).row (number s.table)) s.xs s.ys v.some v.fits l.invariant.0 v.at refl first w.below l.invariant.1

@@ -1,4 +1,4 @@
-use mathlib.Core.Path.{refl, sym, ap, ◌∙◌}
+use mathlib.Core.Path.{sym, ap, ◌∙◌}
 use mathlib.Core.Bool.{not}
 use Prim.Native.Nat.{ℕ}
 use native.Mathlib.Omega.{arith}
@@ -9,15 +9,12 @@ use Rattle.rules.specs.Requests.{is_open}
 use Rattle.book.specs.Slice.{tables}
 use Rattle.search.proofs.lowest_open.Goals as goal
 
-pub loop-p-init : goal.loop-p-init
-loop-p-init c = (omega arith, refl)
-
 pub returns-then-row-ne0 : goal.returns-then-row-ne0
 unfolding is_open
 returns-then-row-ne0 c =
     let d = tables c.args.book.now in
     let opened = ap (λ (m : ℕ). not (eqb m 0)) (sym c.row.ensures) ∙ ap not (ne_eqb _ 0 c.if-row-ne0.true) in
-    search_at (is_open d) (omega arith) c.loop-p.invariant.1 opened
+    (omega arith, sym (search_at (is_open d) (omega arith) c.loop-p.invariant.1 opened))
 
 pub loop-p-preserved : goal.loop-p-preserved
 unfolding is_open
@@ -27,4 +24,4 @@ loop-p-preserved c =
     (omega arith, search_on (is_open d) (omega arith) c.loop-p.invariant.1 shut)
 
 pub returns : goal.returns
-returns c = search_out (is_open (tables c.args.book.now)) (omega arith) (omega arith) c.loop-p.invariant.1
+returns c = sym (search_out (is_open (tables c.args.book.now)) (omega arith) (omega arith) c.loop-p.invariant.1)

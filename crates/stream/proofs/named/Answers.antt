@@ -1,8 +1,7 @@
 -- The arm taken says which name it is.
-use mathlib.Core.Path.{sym}
-use native.Mathlib.Omega.{arith}
+use Rattle.std.proofs.Common.{sym, arith}
 use Rattle.stream.specs.Stream.{named}
-use Rattle.stream.proofs.StreamLaws.{no_name}
+use Rattle.stream.proofs.StreamLaws.{complete_alone, no_name}
 use Rattle.stream.proofs.named.Goals as goal
 
 pub returns-in-110 : goal.returns-in-110
@@ -19,7 +18,7 @@ returns-in-114 c = rw c.in-114.is c.request.ensures
 
 pub returns-in-97 : goal.returns-in-97
 unfolding named
-returns-in-97 c = rw c.in-97.is c.audit.ensures
+returns-in-97 c = rw (c.in-97.is, c.then_some.ensures, c.is_empty.ensures) (complete_alone _ _)
 
 pub returns-in_default : goal.returns-in_default
 returns-in_default c = sym (no_name _ _ _ (omega arith) (omega arith) (omega arith) (omega arith))

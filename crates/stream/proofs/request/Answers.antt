@@ -1,14 +1,27 @@
 -- The four fields that are read are all that the command asks.
-use mathlib.Core.Path.{sym, ◌∙◌}
-use Rattle.stream.proofs.StreamLaws.{taken, left, request_is}
+use Rattle.std.proofs.Common.{sym, ◌∙◌}
+use Rattle.stream.specs.Stream.{request, goes_on}
+use Rattle.stream.proofs.StreamLaws.{complete_alone}
 use Rattle.stream.proofs.request.Goals as goal
 
-pub returns-then-kind-a : goal.returns-then-kind-a
-returns-then-kind-a c =
-    let read = request_is _ _ _ _ _ _ c.number-kind.ensures c.number-a.ensures in
-    sym (read c.number-b.ensures c.number-c.ensures ∙ taken _ _ c.if-kind-a.true)
+pub returns-in_err-kind : goal.returns-in_err-kind
+unfolding request goes_on
+returns-in_err-kind c = rw c.from_residual.ensures (sym (c.in_err-kind.ensures _))
+
+pub returns-in_err-a : goal.returns-in_err-a
+unfolding request goes_on
+returns-in_err-a c = rw c.from_residual-in_err-a.ensures (sym (c.in_ok-kind.ensures _ ∙ c.in_err-a.ensures _))
+
+pub returns-in_err-b : goal.returns-in_err-b
+unfolding request goes_on
+returns-in_err-b c = rw c.from_residual-in_err-b.ensures (sym (c.in_ok-kind.ensures _ ∙ c.in_ok-a.ensures _ ∙ c.in_err-b.ensures _))
+
+pub returns-in_err-c : goal.returns-in_err-c
+unfolding request goes_on
+returns-in_err-c c = rw c.from_residual-in_err-c.ensures (sym (c.in_ok-kind.ensures _ ∙ c.in_ok-a.ensures _ ∙ c.in_ok-b.ensures _ ∙ c.in_err-c.ensures _))
 
 pub returns : goal.returns
+unfolding request goes_on
 returns c =
-    let read = request_is _ _ _ _ _ _ c.number-kind.ensures c.number-a.ensures in
-    sym (read c.number-b.ensures c.number-c.ensures ∙ left _ _ c.if-kind-a.false)
+    rw (c.then_some.ensures, c.is_empty.ensures)
+    (complete_alone _ _ ∙ sym (c.in_ok-kind.ensures _ ∙ c.in_ok-a.ensures _ ∙ c.in_ok-b.ensures _ ∙ c.in_ok-c.ensures _))

@@ -1,32 +1,17 @@
-use mathlib.Core.Path.{sym, ◌∙◌}
-use native.Mathlib.Omega.{arith}
-use Rattle.sets.proofs.SearchLaws.{search_on, search_at, search_out}
-use Rattle.text.proofs.RowLaws.{row_within, find_begins}
+-- The rows are tested one by one.
+use Rattle.std.proofs.Common.{◌+◌, ◌*◌, ◌≡◌, true, false}
+use borrow.Author.Rules.{rules}
+use borrow.Author.Tests.{tests}
+use Rattle.std.proofs.lemmas.Iterator.{first_from_Range}
+use Rattle.text.specs.Rows.{is_row, find_row}
+use Rattle.text.proofs.RowLaws.{find_range}
 use Rattle.text.proofs.find_row.Goals as goal
 
-pub loop-n-init : goal.loop-n-init
-loop-n-init c = (omega arith, find_begins _ _ _ _ _)
-
-pub overflow_mul-n : goal.overflow_mul-n
-overflow_mul-n c =
-    let start = c.args in
-    omega (arith, row_within c.loop-n.n start.count start.width (omega arith))
-
-pub overflow_add-first : goal.overflow_add-first
-overflow_add-first c =
-    let start = c.args in
-    omega (arith, row_within c.loop-n.n start.count start.width (omega arith))
-
-pub is_row-requires : goal.is_row-requires
-is_row-requires c =
-    let start = c.args in
-    omega (arith, row_within c.loop-n.n start.count start.width (omega arith))
-
-pub returns-then-is_row : goal.returns-then-is_row
-returns-then-is_row c = search_at _ (omega arith) c.loop-n.invariant.1 (sym c.is_row.ensures ∙ c.if-is_row.true)
-
-pub loop-n-preserved : goal.loop-n-preserved
-loop-n-preserved c = (omega arith, search_on _ (omega arith) c.loop-n.invariant.1 (sym c.is_row.ensures ∙ c.if-is_row.false))
-
 pub returns : goal.returns
-returns c = search_out _ (omega arith) (omega arith) c.loop-n.invariant.1
+unfolding find_row
+returns c =
+    let s = c.args in
+    let fits = λ (n : _). is_row s.rows.now (s.first + n * s.width) s.width s.word.now in
+    find_range s.count fits c.find.result
+    (first_from_Range _ _ _ c.find.result (λ n. fits n ≡ true) (λ n. fits n ≡ false) c.find.ensures.ran
+    (λ x q k. search (rules, tests)) (λ x q k. search (rules, tests)))

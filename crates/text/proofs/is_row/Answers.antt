@@ -1,10 +1,12 @@
 -- A word that is too long is refused; else the letters decide.
-use mathlib.Core.Path.{◌∙◌}
-use Rattle.text.proofs.RowLaws.{row_long, row_fits}
+use Rattle.text.specs.Rows.{is_row}
+use borrow.Author.Tests.{le-leb, lt-leb}
 use Rattle.text.proofs.is_row.Goals as goal
 
-pub returns-then-width-word : goal.returns-then-width-word
-returns-then-width-word c = row_long _ _ _ _ c.if-width-word.true
+pub returns-then-word-width : goal.returns-then-word-width
+unfolding is_row
+returns-then-word-width c = let h = le-leb _ _ c.if-word-width.true in rw (is_row, h) c.same_letters.ensures
 
-pub returns : goal.returns
-returns c = c.same_letters.ensures ∙ row_fits _ _ _ _ c.if-width-word.false
+pub returns-else-word-width : goal.returns-else-word-width
+unfolding is_row
+returns-else-word-width c = let h = lt-leb _ _ c.if-word-width.false in rw (is_row, h)

@@ -1,9 +1,10 @@
 -- Within the bytes it is the byte that stands there, behind them a blank.
-use Rattle.text.proofs.RowLaws.{letter_in, letter_out}
+use Rattle.std.proofs.Common.{arith}
+use Rattle.std.proofs.lemmas.Grind.{common_steps}
+use Rattle.std.proofs.lemmas.Option.{gets}
+use Rattle.text.specs.Rows.{letter_at}
 use Rattle.text.proofs.letter.Goals as goal
 
-pub returns-then-i-bytes : goal.returns-then-i-bytes
-returns-then-i-bytes c = letter_in _ _ c.if-i-bytes.true
-
-pub returns-else-i-bytes : goal.returns-else-i-bytes
-returns-else-i-bytes c = letter_out _ _ c.if-i-bytes.false
+pub returns : goal.returns
+unfolding letter_at
+returns c = grind (arith, common_steps, gets)

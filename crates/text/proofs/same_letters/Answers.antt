@@ -1,22 +1,18 @@
-use mathlib.Core.Path.{refl}
-use native.Mathlib.Omega.{arith}
-use Rattle.sets.specs.Search.{all}
-use Rattle.text.specs.Rows.{same_letters}
-use Rattle.text.proofs.RowLaws.{same_on, same_fails, same_done}
+-- The letters are tested one by one, as far as the row goes.
+use Rattle.std.proofs.Common.{refl, arith, ◌∙◌, ◌+◌}
+use lib.Dec.{eqb}
+use borrow.Author.Rules.{rules}
+use borrow.Author.Tests.{tests}
+use Rattle.std.proofs.lemmas.Iterator.{YieldsList-from_range}
+use Rattle.std.proofs.lemmas.Iterator.Search.{all_from_yields_List}
+use Rattle.text.specs.Rows.{letter_at, same_letters}
+use Rattle.text.proofs.RowLaws.{all_range}
 use Rattle.text.proofs.same_letters.Goals as goal
 
-pub loop-i-init : goal.loop-i-init
-unfolding same_letters all
-loop-i-init c = (omega arith, refl)
-
-pub returns-then-letter : goal.returns-then-letter
-returns-then-letter c = same_fails _ _ _ _ _ _ c.letter.ensures c.letter-in-loop-i.ensures _ (omega arith) c.if-letter.true
-
-pub loop-i-preserved : goal.loop-i-preserved
-loop-i-preserved c = (
-  omega arith,
-  same_on _ _ _ _ _ _ c.letter.ensures c.letter-in-loop-i.ensures c.loop-i.invariant.1 c.if-letter.false,
-)
-
 pub returns : goal.returns
-returns c = same_done _ _ _ _ _ (omega arith) c.loop-i.invariant.1
+unfolding same_letters
+returns c =
+    let s = c.args in
+    let same = λ (i : _). eqb (letter_at s.rows.now (s.start + i)) (letter_at s.word.now i) in
+    all_from_yields_List same _ _ c.all.result c.all.ensures.ran (YieldsList-from_range 0 s.width s.width refl (omega arith)) (λ x b q k. search (rules, tests))
+    ∙ all_range s.width same

@@ -7,6 +7,6 @@ pub returns : goal.returns
 returns c =
     let answered = c.request.ensures in
     record {
-      told = c.put.ensures ∙ ap listed c.told-reply.ensures ∙ ap four_words answered.told;
+      told = c.put.ensures ∙ ap listed c.from-reply.ensures ∙ ap four_words answered.told;
       stored = answered.stored;
     }

@@ -1,13 +1,9 @@
 -- What is joined, with the rows of the members left, are the rows of the set.
 use mathlib.Core.Path.{◌≡◌}
-use Prim.Native.Nat.{◌^◌, ◌<◌}
 use lib.Bits.{bit_or}
 use Rattle.sets.specs.Mask.{joined}
 use Rattle.book.specs.Slice.{words}
 use Rattle.trade.proofs.joined_of.Given as goal
 
-abbrev pub invariant-loop-left : goal.invariant-loop-left
-invariant-loop-left l = (l.left < 2 ^ 64) × (bit_or l.out (joined 64 (words l.rows) l.left) ≡ joined 64 (words l.rows) l.set)
-
-abbrev pub decreases-loop-left : goal.decreases-loop-left
-decreases-loop-left l = l.left
+abbrev pub invariant-loop-r : goal.invariant-loop-r
+invariant-loop-r l = bit_or l.out (joined 64 (words l.rows) l.r-iterator.left) ≡ joined 64 (words l.rows) l.set

@@ -1,19 +1,13 @@
--- A blank line, or one that begins with a word.
-use mathlib.Core.Path.{◌∙◌}
-use Rattle.typed.proofs.GrammarLaws.{next_cut, next_missing, line_begun}
-use Rattle.typed.specs.Grammar.{line_of}
+-- A line that was read is said as it is, and a fault as one.
+use Rattle.typed.specs.Grammar.{line_said}
 use Rattle.typed.proofs.read.Goals as goal
 
-pub returns-then-word : goal.returns-then-word
-unfolding line_of
-returns-then-word c = next_cut _ _ _ _ c.next-word.ensures.0 _ _ c.if-word.true
+pub returns-in-Ok : goal.returns-in-Ok
+unfolding line_said
+returns-in-Ok c =
+    rw (c.in-Ok.is) at c.read_line.ensures
 
-pub returns-then-start-end : goal.returns-then-start-end
-unfolding line_of
-returns-then-start-end c = next_missing _ _ _ _ c.next-word.ensures.0 _ _ c.if-word.false c.if-start-end.true
-
-pub returns : goal.returns
-unfolding line_of
-returns c =
-    c.begun.ensures
-    ∙ line_begun _ _ _ _ c.next-word.ensures.0 c.if-word.false c.if-start-end.false _ c.find.ensures
+pub returns-in-Err : goal.returns-in-Err
+unfolding line_said
+returns-in-Err c =
+    rw (c.in-Err.is) at c.read_line.ensures

@@ -1,23 +1,19 @@
--- Judged on the book as it stands; both bits are taken only where the answer is 0.
-use mathlib.Core.Path.{sym, ◌∙◌}
+-- Judged on the book as it stands; both bits are taken only where nothing stands in the way.
 use native.Mathlib.Omega.{arith}
 use Rattle.rules.specs.Requests.{change}
 use Rattle.book.specs.Slice.{Full}
-use Rattle.deeds.proofs.OutcomeLaws.{settled_changed, settled_kept}
+use Rattle.deeds.proofs.OutcomeLaws.{passed_up, settled_changed, settled_kept}
 use Rattle.pairs.proofs.PairStored.{pair_taken}
 use Rattle.pairs.proofs.back.unrelate.Goals as goal
 
-pub returns-then-is_accepted : goal.returns-then-is_accepted
-unfolding change
-returns-then-is_accepted c =
-    let first = c.take_from_row.ensures in
-    let second = c.take_from_row-then-is_accepted.ensures in
-    settled_changed c.judge_back-answer.ensures
-    (sym c.is_accepted.ensures
-    ∙ c.if-is_accepted.true)
-    second.0 (pair_taken _ _ _ _ _ _ first.1 second.1)
-
-pub returns-else-is_accepted : goal.returns-else-is_accepted
-returns-else-is_accepted c =
+pub returns-in_err-judge_back : goal.returns-in_err-judge_back
+returns-in_err-judge_back c =
     let full : Full c.args.book.now = omega arith in
-    settled_kept c.judge_back-answer.ensures (sym c.is_accepted.ensures ∙ c.if-is_accepted.false) full
+    rw (passed_up _ c.from_residual.ensures.1) (settled_kept c.in_err-judge_back.ensures full)
+
+pub returns : goal.returns
+unfolding change
+returns c =
+    let first = c.take_from_row.ensures in
+    let second = c.take_from_row-2.ensures in
+    settled_changed c.in_ok-judge_back.ensures second.0 (pair_taken _ _ _ _ _ _ first.1 second.1)

@@ -5,4 +5,4 @@ use Rattle.panel.proofs.acting.give.Goals as goal
 pub returns : goal.returns
 returns c =
     let text = c.args.text.now in
-    rw (← part_within text _ _ _ _ c.least-to.ensures c.least-from.ensures) c.give.ensures
+    rw (← part_within text _ _ _ _ c.min-to.ensures c.min-from.ensures) c.give.ensures

@@ -11,4 +11,4 @@ pub returns : goal.returns
 returns c =
     let answered = c.request.ensures in
     let front = c.part-end.ensures in
-    record { value = c.told.ensures ∙ replied _ _ _ _ _ _ front answered; changed = changed _ _ _ _ _ _ front answered }
+    record { value = c.from.ensures ∙ replied _ _ _ _ _ _ front answered; changed = changed _ _ _ _ _ _ front answered }

@@ -15,6 +15,6 @@ slice_bounds-audit-end c = sym (length-take-le _ _ c.part-end.ensures.within)
 
 pub returns : goal.returns
 returns c =
-    c.told_finding.ensures
+    c.from.ensures
     ∙ ap reply_of c.audit.ensures
     ∙ ap (λ (l : List ℕ). reply_of (audited (length l) (words l))) (front_take _ _ _ c.part-end.ensures)

@@ -1,18 +1,13 @@
--- A slice of another length is no book; past row 63 nothing is read; any other row is read.
+-- Past row 63 nothing is read.
 use mathlib.Core.Path.{sym}
 use mathlib.Core.Logic.{inr}
 use native.Mathlib.Omega.{arith}
 use Rattle.rules.proofs.BookLaws.{read_no_row}
+use Rattle.book.specs.Tables.{number}
 use Rattle.book.specs.Slice.{words}
 use Rattle.spoken.proofs.standing.row_of.Goals as goal
 
-pub returns-then-book-ne-WORDS : goal.returns-then-book-ne-WORDS
-returns-then-book-ne-WORDS c full = absurd (c.if-book-ne-WORDS.true full)
-
-pub returns-then-n-gt63 : goal.returns-then-n-gt63
-returns-then-n-gt63 c full =
+pub returns-in_default : goal.returns-in_default
+returns-in_default c full =
     let s = c.args in
-    sym (read_no_row (words s.book.now) s.table s.n (inr (omega arith)))
-
-pub returns : goal.returns
-returns c full = c.row.ensures
+    sym (read_no_row (words s.book.now) (number s.table) s.n (inr (omega arith)))

@@ -1,8 +1,0 @@
--- The test is the one that the definition has.
-use mathlib.Core.Path.{refl}
-use Rattle.decimal.specs.Decimal.{is_digit}
-use Rattle.labels.proofs.is_digit.Goals as goal
-
-pub returns : goal.returns
-unfolding is_digit
-returns c = refl

@@ -1,9 +1,0 @@
--- The loop goes along the numbers 0 to 63.
-use Prim.Native.Nat.{◌≤◌, ◌-◌}
-use Rattle.shown.proofs.about.related.Given as goal
-
-abbrev pub invariant-loop-i : goal.invariant-loop-i
-invariant-loop-i l = l.i ≤ 64
-
-abbrev pub decreases-loop-i : goal.decreases-loop-i
-decreases-loop-i l = 64 - l.i

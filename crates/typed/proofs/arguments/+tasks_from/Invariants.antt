@@ -1,5 +1,0 @@
--- One call takes one word more; the remaining steps fall.
-use Rattle.typed.proofs.arguments.+tasks_from.Given as goal
-
-abbrev pub decreases-tasks_from : goal.decreases-tasks_from
-decreases-tasks_from l = l.steps
