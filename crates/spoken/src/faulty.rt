@@ -93,10 +93,13 @@ fn missing(at: Place) -> &'static str {
     }
 }
 
-// Writes what is wrong with the word at a place of a line.
+// The sort that is told of a place: wherever one is told, the line wants one there.
+fn sort_at(at: Place) -> Sort {
+    at.sort().unwrap_or(Sort::Order)
+}
+
+// Writes what is wrong with the word at a place of a line. The sort is looked for only where it is told: that takes two searches for a word.
 pub fn fault(pen: &mut Pen, reason: Reason, at: Place) {
-    // Wherever a sort is told, the line wants one there.
-    let sort = at.sort().unwrap_or(Sort::Order);
     pen.paper.text("no request: ");
     match reason {
         Reason::TooLong => too_long(pen.paper),
@@ -104,11 +107,11 @@ pub fn fault(pen: &mut Pen, reason: Reason, at: Place) {
         Reason::TooMany => misplaced(pen.paper, at, " is one too many"),
         Reason::NotNumber => misplaced(pen.paper, at, " is no decimal number"),
         Reason::TooLarge => misplaced(pen.paper, at, " is above 18446744073709551615"),
-        Reason::NotInRange => not_in_range(pen, at, sort),
+        Reason::NotInRange => not_in_range(pen, at, sort_at(at)),
         Reason::UnknownWord => unknown_word(pen.paper, at.word(), at.is_in_help()),
         Reason::NotSort => not_sort(pen.paper, at.word()),
         Reason::NotName => not_name(pen.paper, at.word()),
-        Reason::UnknownName => unknown_name(pen, sort, at.word()),
-        Reason::Taken => taken(pen, sort, at.word()),
+        Reason::UnknownName => unknown_name(pen, sort_at(at), at.word()),
+        Reason::Taken => taken(pen, sort_at(at), at.word()),
     }
 }
