@@ -53,6 +53,9 @@ pub struct Lines<'a> {
 }
 
 impl<'a> Lines<'a> {
+    ghost use types.Logic.{sem};
+    ghost use Rattle.input.specs.Lent.{GivenBack};
+
     // Before the first line.
     pub fn on(piece: &'a mut [u8], text: &'a mut [u8]) -> Lines<'a>
         ensures first { result.reading ≡ unread }
@@ -159,10 +162,11 @@ impl<'a> Lines<'a> {
         }
     }
 
-    // The next line, if there is one: no longer than the text that was lent. While it is lent on in the line, nothing can be said of the text
-    // afterwards; that it keeps its length `gather` says, and nothing else is done to it.
+    // The next line, if there is one: no longer than the text that was lent. The line is lent from self, so what self is after the call is said
+    // of when the line is given back: where reading has failed there was no line, and the text keeps its length.
     pub fn next(&mut self, source: &mut impl Read) -> Result<Option<Line<'_>>, Unreadable>
-        ensures { IfOk result (λ found. IfSome found (λ (line : Line). length line.text.now ≤ length self.old.text.now)) }
+        ensures room { IfOk result (λ found. IfSome found (λ (line : Line). length line.text.now ≤ length self.old.text.now)) }
+        ensures* given_back { sem 𝓛 (GivenBack self.entry result) }
     {
         if self.gather(source)? {
             Ok(Some(self.line()))
