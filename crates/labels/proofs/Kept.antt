@@ -6,17 +6,17 @@ use Prim.Native.Nat.{ℕ, ◌+◌, ◌*◌, ◌≤◌, ◌<◌}
 use native.Mathlib.Decide.{dec_lt}
 use native.Mathlib.Omega.{arith}
 use lib.Dec.{eqb}
-use lib.ListN.{length}
+use lib.ListN.{length, take, drop}
 use borrow.Author.Tests.{eq-eqb}
 use Rattle.sets.proofs.Logic.{not_both}
 use Rattle.sets.specs.Search.{lowest_from, lowest}
 use Rattle.sets.proofs.SearchLaws.{lowest_passes, lowest_first, lowest_most, lowest_is}
 use Rattle.text.specs.Rows.{letter_at, is_row, find_row}
 use Rattle.text.proofs.RowLaws.{letter_out}
-use Rattle.labels.specs.Names.{is_name, row_at, found, with_row, given, name_letter, name_length}
+use Rattle.labels.specs.Names.{is_name, row_at, found, with_row, given, name_letter, name_length, name_bytes}
 use Rattle.labels.specs.Kept.{Nameable, GivenFound, FoundAlone, OthersKept, ShownAsGiven}
 use Rattle.labels.proofs.NameLaws.{name_fits, name_no_blank, found_row, given_row, letter_behind, letter_within, blank_at, length_begins}
-use Rattle.labels.proofs.WrittenRow.{letter_row, row_written, row_before, row_behind}
+use Rattle.labels.proofs.WrittenRow.{letter_row, row_written, word_read, row_before, row_behind}
 
 -- thing k of the sort has the name
 abbrev called : List ℕ → ℕ → List ℕ → ℕ → Bool
@@ -98,6 +98,14 @@ module _ (names : List ℕ) (sort n : ℕ) (word : List ℕ) (can : Nameable nam
       go (no h) (yes d) = absurd (not_both _ (lowest_passes 24 0 blank (omega arith)) (no_blank _ (omega arith)))
       go (no h) (no d) = omega (arith, lowest_most 24 0 blank, fits)
 
+  -- So the bytes shown are the word.
+  bytes_shown : name_bytes (given names sort n word) sort n ≡ word
+  unfolding name_bytes
+  bytes_shown =
+      ap (λ (k : ℕ). take k (drop (row_at sort n) (given names sort n word))) length_shown
+      ∙ ap (λ (l : List ℕ). take (length word) (drop (row_at sort n) l)) given_after
+      ∙ word_read names (row_at sort n) word room fits
+
   module _ (s m : ℕ) (thing : m < 64) (apart : s ≡ sort → m ≡ n → ⊥) (other : List ℕ) where
     abbrev Same : Type 0
     Same = is_row (given names sort n word) (row_at s m) 24 other ≡ is_row names (row_at s m) 24 other
@@ -129,4 +137,5 @@ pub others_kept : OthersKept
 others_kept names sort n word can s m thing apart other = kept names sort n word can s m thing apart other
 
 pub shown_as_given : ShownAsGiven
-shown_as_given names sort n word can = (length_shown names sort n word can, letter_shown names sort n word can)
+shown_as_given names sort n word can =
+    (length_shown names sort n word can, letter_shown names sort n word can, bytes_shown names sort n word can)

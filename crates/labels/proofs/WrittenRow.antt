@@ -5,7 +5,9 @@ use mathlib.Core.List.{List, ◌++◌}
 use Prim.Native.Nat.{ℕ, ◌+◌, ◌-◌, ◌≤◌, ◌<◌}
 use native.Mathlib.Omega.{arith}
 use lib.ListN.{length, take, drop, get_or, length-append, get_or-append}
-use lib.Seq.{length-take-le, get_or-append-add, get_or-take, get_or-drop}
+use lib.Seq.{length-take-le, get_or-append-add, get_or-take, get_or-drop, take-append_seam}
+use Rattle.std.proofs.Common.{append_assoc}
+use Rattle.std.proofs.lemmas.List.{drop_at}
 use borrow.Author.Tests.{eq-eqb}
 use Rattle.sets.proofs.SearchLaws.{all_in}
 use Rattle.text.specs.Rows.{letter_at, filled, same_letters, is_row}
@@ -55,6 +57,15 @@ module _ (names : List ℕ) (at : ℕ) (word : List ℕ) (room : at + 24 ≤ len
   pub row_written : is_row (with_row names at word) at 24 word ≡ true
   unfolding same_letters
   row_written = sym (row_fits _ _ _ _ fits) ∙ all_in 24 _ (λ i h. eq-eqb _ _ (letter_row i h))
+
+  -- What stands from the row's first byte on, as far as the word is long, is the word.
+  pub word_read : take (length word) (drop at (with_row names at word)) ≡ word
+  unfolding with_row filled
+  word_read =
+      let rest = drop (at + 24) names in
+      ap (λ (l : List ℕ). take (length word) (drop at l)) (append_assoc before (filled 24 word) rest)
+      ∙ ap (λ (l : List ℕ). take (length word) l) (drop_at before (filled 24 word ++ rest) at length_before ∙ append_assoc word _ rest)
+      ∙ take-append_seam word _
 
 module _ (names : List ℕ) (at : ℕ) (word : List ℕ) (room : at + 24 ≤ length names) (fits : length word ≤ 24) (start : ℕ) (other : List ℕ) where
   -- A row before it is what it was ..

@@ -1,7 +1,7 @@
 -- What a user who gives names may rely on. proofs/Kept.antt shows each of the four statements.
 use Rattle.std.specs.Prelude.{◌≡◌, true, List, ℕ, ◌≤◌, ◌<◌, length}
 use Rattle.text.specs.Rows.{letter_at, is_row}
-use Rattle.labels.specs.Names.{is_name, row_at, found, given, name_letter, name_length}
+use Rattle.labels.specs.Names.{is_name, row_at, found, given, name_letter, name_length, name_bytes}
 
 -- the table is whole, there is thing n of the sort, and the word is a name
 pub record Nameable (names : List ℕ) (sort n : ℕ) (word : List ℕ) : Type 0 where
@@ -27,8 +27,10 @@ OthersKept =
     → (s m : ℕ) → m < 64 → (s ≡ sort → m ≡ n → ⊥) → (other : List ℕ)
     → is_row (given names sort n word) (row_at s m) 24 other ≡ is_row names (row_at s m) 24 other
 
--- 4. What is shown of thing n is the name that it got, letter by letter, and as long.
+-- 4. What is shown of thing n is the name that it got: as long, letter by letter, and as the bytes that `name_of` promises.
 abbrev pub ShownAsGiven : Type 0
 ShownAsGiven =
     (names : List ℕ) (sort n : ℕ) (word : List ℕ) → Nameable names sort n word
-    → (name_length (given names sort n word) sort n ≡ length word) × ((i : ℕ) → name_letter (given names sort n word) sort n i ≡ letter_at word i)
+    → (name_length (given names sort n word) sort n ≡ length word)
+    × ((i : ℕ) → name_letter (given names sort n word) sort n i ≡ letter_at word i)
+    × (name_bytes (given names sort n word) sort n ≡ word)
