@@ -67,7 +67,9 @@ pub fn is_name(word: &[u8]) -> bool
     let [first, ..] = word else {
         return false;
     };
-    (word.len() <= WIDTH) & !first.is_ascii_digit() & has_name_bytes(word)
+    // A word that is too long or begins with a digit is not read to its end.
+    let may_be = (word.len() <= WIDTH) & !first.is_ascii_digit();
+    may_be && has_name_bytes(word)
 }
 
 // Which of the sorts with names it is, if it is one: tasks come first in the table, then roles, persons and orders.
