@@ -57,6 +57,11 @@ pub known_digit : (b : ℕ) → is_ascii_digit b ≡ is_digit b
 unfolding is_digit
 known_digit b = grind (arith, nat_tests)
 
+-- A digit's byte lies from 48 to 57: for whoever takes 48 from it.
+pub digit_range : (b : ℕ) → is_digit b ≡ true → (48 ≤ b) × (b < 58)
+unfolding is_digit
+digit_range b e = grind (arith, nat_tests)
+
 module _ (l : List ℕ) (i : ℕ) (h : i < length l) where
   one_more : (n : ℕ) → number_from n (drop i l) ≡ number_from n (get_or l i 0 ∷ drop (i + 1) l)
   one_more n = rw (add-one, drop-cons l i 0)

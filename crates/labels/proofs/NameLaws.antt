@@ -81,15 +81,19 @@ name_no_blank word e i h =
 
 module _ (names : List ℕ) (sort : ℕ) (word : List ℕ) where
   -- Nothing is found where the sort is none ..
-  pub found_sort : found names sort word < 64 → sort < 4
+  pub found_no_sort : 4 ≤ sort → 64 ≡ found names sort word
   unfolding found
+  found_no_sort h = rw (found, le-ltb sort 4 h)
+
+  -- .. so where something is, it is one ..
+  pub found_sort : found names sort word < 64 → sort < 4
   found_sort h = go (dec_lt sort 4)
     where
       go : Dec (sort < 4) → sort < 4
       go (yes d) = d
-      go (no d) = let l : 4 ≤ sort = omega arith in absurd (omega (arith, rw (found, le-ltb sort 4 l) at h))
+      go (no d) = absurd (omega (arith, found_no_sort (omega arith)))
 
-  -- .. or the word is no name.
+  -- .. and nothing where the word is no name.
   pub found_no_name : is_name word ≡ false → 64 ≡ found names sort word
   unfolding found
   found_no_name e = rw (found, and_fails_r (ltb sort 4) _ e)

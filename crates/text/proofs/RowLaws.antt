@@ -7,7 +7,7 @@ use Prim.Native.Nat.{ℕ, zero, suc, ◌+◌, ◌-◌, ◌≤◌, ◌<◌}
 use native.Mathlib.Nat.{le_of_suc-le-suc, add-sub_of_le}
 use native.Mathlib.Omega.{arith}
 use lib.ListN.{length, get_or, replicate, length-append, length-replicate, get_or-eq_default}
-use borrow.Author.Tests.{le-leb}
+use borrow.Author.Tests.{le-leb, lt-leb}
 use Rattle.sets.specs.Search.{lowest_from}
 use native.Mathlib.Decide.{dec_lt}
 use Rattle.std.proofs.Common.{Option, Some, None}
@@ -57,6 +57,11 @@ letter_in (x ∷ l) (suc i) h = letter_in l i (le_of_suc-le-suc h)
 pub letter_out : (l : List ℕ) (i : ℕ) → length l ≤ i → 32 ≡ letter_at l i
 unfolding letter_at
 letter_out l i h = sym (get_or-eq_default l 32 h)
+
+-- A word that is longer than the row is not in it.
+pub row_long : (rows : List ℕ) (start width : ℕ) (word : List ℕ) → width < length word → false ≡ is_row rows start width word
+unfolding is_row
+row_long rows start width word h = rw (lt-leb (length word) width h)
 
 -- Of a word that is no longer than the row the letters decide.
 pub row_fits : (rows : List ℕ) (start width : ℕ) (word : List ℕ) → length word ≤ width

@@ -8,7 +8,7 @@ use lib.ListN.{length, get_or-append}
 use lib.Seq.{get_or-append-add}
 use Rattle.sets.proofs.Logic.{and_out}
 use Rattle.text.specs.Written.{written}
-use Rattle.text.proofs.RowLaws.{letter_filled, length_filled, rows_same}
+use Rattle.text.proofs.RowLaws.{letter_out, letter_filled, length_filled, rows_same}
 use Prim.Native.Nat.{ℕ, zero, suc, ◌+◌, ◌*◌, ◌-◌, ◌≤◌, ◌<◌}
 use native.Mathlib.Omega.{arith}
 use borrow.Author.Tests.{lt-ltb, le-ltb, leb-true}
@@ -78,6 +78,29 @@ all_fit = refl
 -- So a word is that of a row where the rows have it there.
 pub known_row : (row : ℕ) (word : List ℕ) → is_row (word_of row) 0 16 word ≡ is_row (rows_of words) (0 + row * 16) 16 word
 known_row row word = rows_same _ _ 0 (0 + row * 16) 16 word (letters_same words all_fit row)
+
+-- For whoever reads the letters of a word: they are those of its row ..
+pub letter_within : (row i : ℕ) → i < 16 → letter_at (rows_of words) (row * 16 + i) ≡ letter_at (word_of row) i
+letter_within row i h =
+    let at : row * 16 + i ≡ 0 + row * 16 + i = omega arith in
+    let there : 0 + i ≡ i = omega arith in
+    ap (λ (k : ℕ). letter_at (rows_of words) k) at
+    ∙ sym (letters_same words all_fit row i h)
+    ∙ ap (λ (k : ℕ). letter_at (word_of row) k) there
+
+short : (ws : List String) → fit ws ≡ true → (row : ℕ) → length (nth_word row ws) ≤ 16
+unfolding nth_word
+short [] e row = omega arith
+short (w ∷ ws) e zero = leb-true _ _ (and_out _ _ e).0
+short (w ∷ ws) e (suc row) = short ws (and_out _ _ e).1 row
+
+-- .. and no word has more than 16 ..
+pub word_short : (row : ℕ) → length (word_of row) ≤ 16
+word_short row = short words all_fit row
+
+-- .. so that from 16 on there are blanks.
+pub letter_behind : (row i : ℕ) → 16 ≤ i → 32 ≡ letter_at (word_of row) i
+letter_behind row i h = letter_out (word_of row) i (omega (arith, word_short row))
 
 -- Every word is found in its own row: computed.
 pub each_in_its_row : EachInItsRow
