@@ -7,8 +7,11 @@ import re
 from collections import namedtuple
 
 Token = namedtuple("Token", "kind text start end")
-Function = namedtuple("Function", "name params returns promised first last head", defaults=[0])  # head: where its `fn` stands
+# head: where its `fn` stands; owner: of a method its type; of a trait's function what the prover calls the two together, as MembersIterator
+Function = namedtuple("Function", "name params returns promised first last head owner", defaults=[0, ""])
 Change = namedtuple("Change", "start end new kind")
+# name: what the prover calls it in its crate, with / for ::; home: where it stands in its file; touches: the functions whose proofs may notice
+Searched = namedtuple("Searched", "name home touches changes")
 
 TOKEN = re.compile(
     r"""(?P<space>\s+)|(?P<comment>//[^\n]*)
@@ -29,11 +32,11 @@ HEADS = {"if", "while", "for", "match", "loop"}
 
 
 def blanked(text):
-    """The text with every contract and ghost line blank, all places kept, and where an `ensures` stood."""
-    promises = []
+    """The text with every contract and ghost line blank, all places kept; where an `ensures` stood, and where what a trait's function gives."""
+    promises, gives = [], []
     for m in re.finditer(r"\bghost use [^;]*;", text):
         text = text[: m.start()] + re.sub(r"[^\n]", " ", m[0]) + text[m.end() :]
-    for m in re.finditer(r"^[ \t]*(requires|ensures|ghost)\*?(?:[ \t]+\w+)?:?\s*\{", text, re.M):
+    for m in re.finditer(r"^[ \t]*(requires|ensures|ghost)\*?(?:[ \t]+(\w+))?:?(?:[ \t]*=)?\s*\{", text, re.M):
         depth, end = 1, m.end()
         while depth:
             depth += {"{": 1, "}": -1}.get(text[end], 0)
@@ -41,7 +44,9 @@ def blanked(text):
         text = text[: m.start()] + re.sub(r"[^\n]", " ", text[m.start() : end]) + text[end:]
         if m[1] == "ensures":
             promises.append(m.start())
-    return text, promises
+        elif m[1] == "ghost" and (m[2] or "").endswith("_gives"):
+            gives.append((m.start(), m[2].removesuffix("_gives")))
+    return text, promises, gives
 
 
 def tokens_of(text):
@@ -50,12 +55,17 @@ def tokens_of(text):
     ]
 
 
-class Source:
-    """One file: its tokens, the partner of each bracket, and its items."""
+def called(words):
+    """A type or a trait in one word, as the prover puts it: `From < u64 >` is FromU64, `& str` is RefStr."""
+    return "".join({"&": "Ref"}.get(word, word[:1].upper() + word[1:]) for word in words if word == "&" or word[0].isalnum())
 
-    def __init__(self, text):
-        self.text = text
-        plain, self.promises = blanked(text)
+
+class Source:
+    """One file: its tokens, the partner of each bracket, and its items. Of a module of its crate the name is given."""
+
+    def __init__(self, text, module=""):
+        self.text, self.module = text, module
+        plain, self.promises, self.gives = blanked(text)
         self.tokens = tokens_of(plain)
         self.partner, stack = {}, []
         for i, t in enumerate(self.tokens):
@@ -103,36 +113,60 @@ class Source:
             i += 1
         return i
 
-    def functions(self):
+    def impls(self):
+        """Each `impl`: its brackets, and the type; of a trait for a type, what the prover calls the two together."""
         found = []
+        for i, t in enumerate(self.tokens):
+            if t.text == "impl" and self.at(i - 1) in ("", ";", "{", "}", "]"):
+                head = self.past_types(i + 1)
+                first = self.until(head, {"{"}, len(self.tokens))
+                words = self.words(head, self.until(head, {"where"}, first)).split(" ")
+                if "for" in words:
+                    at = words.index("for")
+                    owner = called(words[at + 1 :]) + called(words[:at])
+                else:
+                    owner = re.match(r"(?:\w+ :: )*(\w*)", " ".join(words))[1]
+                found.append((first, self.partner[first], owner))
+        return found
+
+    def functions(self):
+        found, impls = [], self.impls()
         for i, t in enumerate(self.tokens):
             if t.text != "fn" or self.tokens[i + 1].kind != "word":
                 continue
             opened = self.past_types(i + 2)
             close = self.partner[opened]
-            body = self.until(close + 1, {"{"}, len(self.tokens))
+            body = self.until(close + 1, {"{", ";"}, len(self.tokens))
+            if self.at(body) == ";":  # a trait asks for it
+                continue
             params = [(self.at(a), self.words(a + 2, e)) for a, e in self.parts(opened + 1, close) if self.at(a + 1) == ":"]
             returns = self.words(close + 2, body) if self.at(close + 1) == "->" else ""
-            promised = any(t.start < p < self.tokens[body].start for p in self.promises)
-            found.append(Function(self.at(i + 1), params, returns, promised, body, self.partner[body], i))
+            around, end, owner = next((block for block in impls if block[0] < i < block[1]), (0, 0, ""))
+            promised = any(t.start < p < self.tokens[body].start for p in self.promises) or any(
+                name == self.at(i + 1) and self.tokens[around].start < p < self.tokens[end].start for p, name in self.gives
+            )
+            found.append(Function(self.at(i + 1), params, returns, promised, body, self.partner[body], i, owner))
         return found
 
-    def home(self, name):
-        """Where the function or table of that name stands in the text, and the functions that it is part of: itself, or its users."""
-        for f in self.functions():
-            if f.name == name:
-                return (self.tokens[f.head].start, self.tokens[f.last].end), [name]
-        _, first, last = self.constants()[name]
-        users = [f.name for f in self.functions() if name in self.words(f.first, f.last).split(" ")]
-        return (self.tokens[first].start, self.tokens[last].end), users
+    def place(self, first, last):
+        """From where to where these tokens stand in the text, the last one included."""
+        return self.tokens[first].start, self.tokens[last].end
+
+    def aliases(self):
+        """Each other name of a type, with the type."""
+        found = {}
+        for i, t in enumerate(self.tokens):
+            if t.text == "type" and self.at(i + 2) == "=":
+                found[self.at(i + 1)] = self.words(i + 3, self.until(i, {";"}, len(self.tokens)))
+        return found
 
     def enums(self):
         """Of each enum its cases, each with what it holds."""
         found = {}
         for i, t in enumerate(self.tokens):
             if t.text == "enum":
-                cases = {}
-                for a, e in self.parts(i + 3, self.partner[i + 2]):
+                cases, opened = {}, self.past_types(i + 2)
+                for a, e in self.parts(opened + 1, self.partner[opened]):
                     cases[self.at(a)] = self.words(a + 1, e)
                 found[self.at(i + 1)] = cases
         return found
@@ -141,9 +175,10 @@ class Source:
         """Of each struct its fields with their types; those of a tuple struct are called 0, 1, 2."""
         found = {}
         for i, t in enumerate(self.tokens):
-            if t.text == "struct" and self.at(i + 2) in ("{", "("):
+            opened = self.past_types(i + 2) if t.text == "struct" else i
+            if self.at(opened) in ("{", "(") and opened > i:
                 fields = {}
-                for n, (a, e) in enumerate(self.parts(i + 3, self.partner[i + 2])):
+                for n, (a, e) in enumerate(self.parts(opened + 1, self.partner[opened])):
                     a += self.at(a) == "pub"
                     fields[self.at(a) if self.at(a + 1) == ":" else str(n)] = self.words(a + 2 if self.at(a + 1) == ":" else a, e)
                 found[self.at(i + 1)] = fields
@@ -164,6 +199,7 @@ class World:
 
     def __init__(self, sources):
         self.functions, self.enums, self.structs, self.constants = {}, {}, {}, {}
+        self.aliases, self.modules = {}, {}  # modules: of each type the one that it stands in
         for crate, source in sources:
             for f in source.functions():
                 self.functions[crate, f.name] = f
@@ -171,6 +207,10 @@ class World:
                 self.enums[crate, name] = cases
             for name, fields in source.structs().items():
                 self.structs[crate, name] = fields
+            for name in {**source.enums(), **source.structs()}:
+                self.modules[crate, name] = source.module
+            for name, kind in source.aliases().items():
+                self.aliases[crate, name] = kind
             for name, (kind, _, _) in source.constants().items():
                 self.constants.setdefault((crate, kind), []).append(name)
 
@@ -178,6 +218,31 @@ class World:
         """The function of that path, of another crate or of a module of this one."""
         other = self.functions.get((path[-2], path[-1])) if len(path) > 1 else None
         return other or self.functions.get((crate, path[-1]))
+
+    def called(self, crate, source, function):
+        """What the prover calls a function of the crate: a method stands in the module of its type, wherever its `impl` stands."""
+        module = self.modules.get((crate, function.owner), source.module)
+        return "/".join(filter(None, [module, function.owner, function.name]))
+
+    def result(self, crate, kind):
+        """Of a Result, which may have another name, what its Ok and its Err hold, and the crate that says so; else nothing."""
+        name = kind.split(" ")[-1]
+        if "<" not in kind:
+            homes = sorted((c != crate, c) for c, n in self.aliases if n == name)
+            crate, kind = (homes[0][1], self.aliases[homes[0][1], name]) if homes else (crate, kind)
+        m = re.fullmatch(r"Result < (.*) , ([\w: ]+) >", kind)
+        return (m[1], m[2], crate) if m else ("", "", crate)
+
+    def plain(self, source, crate, home, name):
+        """Of an enum that the crate `home` speaks of, the cases that hold nothing, as the file of another crate or of that one says them."""
+        name = name.split(" ")[-1]
+        if (home, name) in self.structs and (home, name) not in self.enums:
+            return []
+        where = min(((c != home, c) for c, n in self.enums if n == name), default=(False, ""))[1]
+        cases = [case for case, holds in self.enums.get((where, name), {}).items() if not holds]
+        own = where == crate and self.modules[where, name] == source.module
+        path = [] if own else ["crate" if where == crate else where, *filter(None, [self.modules.get((where, name))])]
+        return ["::".join([*path, name, case]) for case in cases]
 
     def cases(self, crate, name):
         return self.parts(self.enums, crate, name)
@@ -326,8 +391,25 @@ class Body:
             self.change(i, i + 1, "b'%s'" % chr(ord(t.text[2]) + 1), "constant")
         elif t.kind == "word" and self.s.at(i - 1) == ".":
             self.field(i)
+        elif t.text in ("Some", "Ok", "Err") and self.s.at(i + 1) == "(" and i not in self.binders:
+            self.held(i)
         elif t.kind == "word" and self.s.at(i + 1) != "::":
             self.named(i)
+
+    def held(self, i):
+        """The cases of Option and Result, as those of an enum of this repository. `Some(..)` becomes `None`. `Err(..)` becomes `Ok` of the
+        first case that holds nothing, or of `()`; `Ok(..)` the first such refusal, and `Ok(())` the last one too, its neighbours."""
+        word, end = self.s.at(i), self.s.past(i + 1)
+        good, bad, home = self.world.result(self.crate, self.f.returns)
+        if word == "Some":
+            others = ["None"]
+        elif word == "Err":
+            others = [f"Ok({case})" for case in (["()"] if good == "( )" else self.world.plain(self.s, self.crate, home, good)[:1])]
+        else:
+            cases = self.world.plain(self.s, self.crate, home, bad)
+            others = [f"Err({case})" for case in (cases[:1] + cases[-1:] if good == "( )" else cases[:1])]
+        for other in others:
+            self.change(i, end, other, "answer")
 
     def field(self, i):
         """A field of a local becomes the others of its type."""
@@ -487,14 +569,20 @@ def table_changes(source, world, crate, name, first, last):
 
 
 def changes_of(source, world, crate):
-    """Of each function that promises something, and of each table, its changes; and the functions that promise nothing."""
-    found, left_out = {}, []
-    for f in source.functions():
+    """Each function that promises something, and each table that functions of the file use, with its changes; and the others, each with why."""
+    found, left_out, functions = [], [], source.functions()
+    for f in functions:
+        name = world.called(crate, source, f)
         if f.promised:
-            found[f.name] = Body(source, world, crate, f).all()
+            found.append(Searched(name, source.place(f.head, f.last), [name], Body(source, world, crate, f).all()))
         else:
-            left_out.append(f.name)
+            left_out.append(("because they promise nothing", name))
     for name, (kind, first, last) in source.constants().items():
         if kind.startswith("["):
-            found[name] = table_changes(source, world, crate, name, first + 1, last - 1)
+            users = [world.called(crate, source, f) for f in functions if name in source.words(f.first, f.last).split(" ")]
+            changes, name = table_changes(source, world, crate, name, first + 1, last - 1), "/".join(filter(None, [source.module, name]))
+            if users:
+                found.append(Searched(name, source.place(first, last), users, changes))
+            else:
+                left_out.append(("because only other files use them", name))
     return found, left_out

@@ -208,6 +208,8 @@ def end_of(c, run):
         return ("misfit", misfits[0]) if misfits else ("refused", own[0])
     if not run.verdicts or any("could not tell" in s for s in said):
         return "unclear", run.said
+    if untold := sorted(c.touches - run.verdicts.keys()):
+        return "unknown", f"the prover says nothing of {c.crate}/{untold[0]}"
     missing = [s for s in said if not s.startswith("proved")]
     if missing:
         return ("refused" if "did not prove" in missing[0] else "misfit"), missing[0]
