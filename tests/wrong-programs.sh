@@ -4,5 +4,6 @@
 
 type holds >/dev/null 2>&1 || . "$(dirname "${BASH_SOURCE[0]}")/alone"
 
+holds "functions are called and judged as the prover calls them" tests/wrong_programs/itself
 wrong_seed=$(cat crates/*/src/*.rt | sha256sum | cut -c 1-8)
 holds "wrong programs drawn by seed $wrong_seed are refused" tests/wrong-programs --sample "$wrong_seed" 10
