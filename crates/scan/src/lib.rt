@@ -121,27 +121,31 @@ fn joined_cells(book: &book::Words, order: u64) -> u64
     any
 }
 
-// Whether the cell of an order with these tasks, and of task t, is bad. A cell of 0 is never bad.
-fn is_bad_cell_at(book: &book::Words, order: u64, tasks: u64, t: u64) -> bool
-    requires { (order < 64) × (tasks ≡ (tables book.now).row orders order) × (t < 64) }
+// Whether the cell of an order with these tasks, and of task t, is bad, where these roles and subjects are known. A cell of 0 is never bad.
+fn is_bad_cell_at(
+    book: &book::Words,
+    order: u64,
+    tasks: u64,
+    roles: u64,
+    subjects: u64,
+    t: u64,
+) -> bool
+    requires at { (order < 64) × (tasks ≡ (tables book.now).row orders order) × (t < 64) }
+    requires known { (roles ≡ (tables book.now).head 1) × (subjects ≡ (tables book.now).head 2) }
     ensures { result ≡ cell_bad (tables book.now) order t }
 {
     let v = book::cell(book, order, t);
-    v != 0
-        && is_bad_cell(
-            sets::has(tasks, t),
-            book::head(book, book::ROLES),
-            book::head(book, book::SUBJECTS),
-            v,
-        )
+    v != 0 && is_bad_cell(sets::has(tasks, t), roles, subjects, v)
 }
 
-// The lowest bad cell of an order with these tasks, if it has one.
+// The lowest bad cell of an order with these tasks, if it has one. Roles and subjects are read once, and not at each of the cells.
 fn bad_cell_among(book: &book::Words, order: u64, tasks: u64) -> Option<u64>
     requires { (order < 64) × (tasks ≡ (tables book.now).row orders order) }
     ensures { IsLowest (cell_bad (tables book.now) order) result }
 {
-    (0..64).find(|t| is_bad_cell_at(book, order, tasks, *t))
+    let roles = book::head(book, book::ROLES);
+    let subjects = book::head(book, book::SUBJECTS);
+    (0..64).find(|t| is_bad_cell_at(book, order, tasks, roles, subjects, *t))
 }
 
 // The lowest bad cell of an order, if it has one. Most orders are closed, and then all their cells are 0.

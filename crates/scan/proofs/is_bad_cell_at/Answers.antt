@@ -13,7 +13,7 @@ pub returns-then-v-ne0 : goal.returns-then-v-ne0
 returns-then-v-ne0 c =
     let s = c.args in
     cell_judged (tables s.book.now) s.order s.t (omega arith) (omega arith) c.cell-v.ensures c.if-v-ne0.true c.is_bad_cell.ensures
-    c.has.ensures (search rules) c.head.ensures c.head-then-v-ne0.ensures
+    c.has.ensures (search rules) (search rules) (search rules)
 
 pub returns-else-v-ne0 : goal.returns-else-v-ne0
 returns-else-v-ne0 c =
