@@ -1,6 +1,10 @@
+use native.Mathlib.Omega.{arith}
 use Rattle.cells.proofs.CellLaws.{stamped_on, stamped_done}
 use Rattle.book.specs.Slice.{tables}
 use Rattle.cells.proofs.Hand.stamp.Goals as goal
+
+pub loop-task-init : goal.loop-task-init
+loop-task-init c = (omega arith, rw (c.into_iter-task-iterator.ensures.into_iter_gives, c.each-task-items.ensures))
 
 pub loop-task-preserved : goal.loop-task-preserved
 loop-task-preserved c =
