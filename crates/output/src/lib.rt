@@ -27,6 +27,7 @@ impl<'a> Paper<'a> {
     // A blank paper, on any room.
     pub fn on(room: &'a mut [u8]) -> Paper<'a>
         ensures blank { (result.used ≡ 0) × (result.quoted ≡ false) × (result.failed ≡ false) }
+        ensures room { length result.room.now ≡ length room.old }
     {
         Paper {
             room,
@@ -54,7 +55,8 @@ impl<'a> Paper<'a> {
 
     // Writes what was gathered. After a write that failed nothing is written any more.
     pub fn flush(&mut self)
-        ensures { self.new.quoted ≡ self.old.quoted }
+        ensures stays { self.new.quoted ≡ self.old.quoted }
+        ensures room { length self.new.room.now ≡ length self.old.room.now }
     {
         if !self.failed && !io::write_all(OUTPUT, &self.room[..self.used]) {
             self.failed = true;
@@ -64,7 +66,8 @@ impl<'a> Paper<'a> {
 
     // One byte more, as it is.
     fn put(&mut self, byte: u8)
-        ensures { self.new.quoted ≡ self.old.quoted }
+        ensures stays { self.new.quoted ≡ self.old.quoted }
+        ensures room { length self.new.room.now ≡ length self.old.room.now }
     {
         if self.used == self.room.len() {
             self.flush();
@@ -77,14 +80,16 @@ impl<'a> Paper<'a> {
 
     // From here on what is put on the paper stands inside a JSON string, or no longer does.
     pub fn quoted(&mut self, on: bool)
-        ensures { self.new.quoted ≡ on }
+        ensures quotes { self.new.quoted ≡ on }
+        ensures room { length self.new.room.now ≡ length self.old.room.now }
     {
         self.quoted = on;
     }
 
     // A byte inside a JSON string: what JSON would take otherwise, and what is no letter of ASCII, is written by its number.
     fn escaped(&mut self, byte: u8)
-        ensures { self.new.quoted ≡ self.old.quoted }
+        ensures stays { self.new.quoted ≡ self.old.quoted }
+        ensures room { length self.new.room.now ≡ length self.old.room.now }
     {
         match byte {
             b'"' | b'\\' => {
@@ -104,7 +109,8 @@ impl<'a> Paper<'a> {
 
     // One byte more.
     pub fn byte(&mut self, byte: u8)
-        ensures { self.new.quoted ≡ self.old.quoted }
+        ensures stays { self.new.quoted ≡ self.old.quoted }
+        ensures room { length self.new.room.now ≡ length self.old.room.now }
     {
         if self.quoted {
             self.escaped(byte);
@@ -115,7 +121,8 @@ impl<'a> Paper<'a> {
 
     // More bytes.
     pub fn bytes(&mut self, text: &[u8])
-        ensures { self.new.quoted ≡ self.old.quoted }
+        ensures stays { self.new.quoted ≡ self.old.quoted }
+        ensures room { length self.new.room.now ≡ length self.old.room.now }
     {
         for b in text {
             self.byte(*b);
@@ -124,14 +131,16 @@ impl<'a> Paper<'a> {
 
     // More text.
     pub fn text(&mut self, text: &str)
-        ensures { self.new.quoted ≡ self.old.quoted }
+        ensures stays { self.new.quoted ≡ self.old.quoted }
+        ensures room { length self.new.room.now ≡ length self.old.room.now }
     {
         self.bytes(text.as_bytes());
     }
 
     // A number in decimal.
     pub fn number(&mut self, n: u64)
-        ensures { self.new.quoted ≡ self.old.quoted }
+        ensures stays { self.new.quoted ≡ self.old.quoted }
+        ensures room { length self.new.room.now ≡ length self.old.room.now }
     {
         let mut digits = [0u8; 20];
         let count = io::decimal(n, &mut digits);
@@ -140,7 +149,8 @@ impl<'a> Paper<'a> {
 
     // Text n of several, counted from 0; nothing where there are not so many.
     pub fn nth(&mut self, texts: &[&str], n: u64)
-        ensures { self.new.quoted ≡ self.old.quoted }
+        ensures stays { self.new.quoted ≡ self.old.quoted }
+        ensures room { length self.new.room.now ≡ length self.old.room.now }
     {
         if let Ok(i) = usize::try_from(n) {
             if let Some(text) = texts.get(i) {
