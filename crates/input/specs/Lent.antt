@@ -11,6 +11,7 @@ use mir.Syntax.{named}
 abbrev pub lines_row : RattleType
 lines_row = the_row (record { mir = named 0; lft = [] })
 
--- where reading has failed there was no line, and the text keeps its length
+-- where reading has failed there was no line, and both arrays keep their length
 abbrev pub GivenBack : {A E : Type 0} → MutBor Lines → Result A E → Fml
-GivenBack lines read = Rests lines_row lines (λ after. NoLine after.reading read × (length after.text.now ≡ length lines.now.text.now))
+GivenBack lines read = Rests lines_row lines (λ after. NoLine after.reading read × (length after.text.now ≡ length lines.now.text.now)
+    × (length after.piece.now ≡ length lines.now.piece.now))

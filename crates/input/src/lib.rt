@@ -60,6 +60,7 @@ impl<'a> Lines<'a> {
     pub fn on(piece: &'a mut [u8], text: &'a mut [u8]) -> Lines<'a>
         ensures first { result.reading ≡ unread }
         ensures room { length result.text.now ≡ length text.old }
+        ensures piece { length result.piece.now ≡ length piece.old }
     {
         let reading = Reading {
             at: 0,
@@ -79,6 +80,7 @@ impl<'a> Lines<'a> {
     fn refill(&mut self, source: &mut impl Read)
         ensures held { self.new.reading.held ≡ self.old.reading.held }
         ensures room { length self.new.text.now ≡ length self.old.text.now }
+        ensures piece { length self.new.piece.now ≡ length self.old.piece.now }
     {
         if let Input::Open = self.reading.input {
             let (end, input) = match source.read(self.piece) {
@@ -99,6 +101,7 @@ impl<'a> Lines<'a> {
     fn byte(&mut self, source: &mut impl Read) -> Result<Option<u8>, Unreadable>
         ensures held { self.new.reading.held ≡ self.old.reading.held }
         ensures room { length self.new.text.now ≡ length self.old.text.now }
+        ensures piece { length self.new.piece.now ≡ length self.old.piece.now }
         ensures no_line { NoLine self.new.reading result }
     {
         if self.reading.at == self.reading.end {
@@ -120,6 +123,7 @@ impl<'a> Lines<'a> {
     fn take(&mut self, byte: u8)
         ensures taken { Taken self.old.text.now self.new.text.now self.old.reading self.new.reading byte }
         ensures room { length self.new.text.now ≡ length self.old.text.now }
+        ensures piece { length self.new.piece.now ≡ length self.old.piece.now }
     {
         if byte == b'\n' {
             return;
@@ -136,6 +140,7 @@ impl<'a> Lines<'a> {
     fn gather(&mut self, source: &mut impl Read) -> Result<bool, Unreadable>
         ensures no_line { NoLine self.new.reading result }
         ensures room { length self.new.text.now ≡ length self.old.text.now }
+        ensures piece { length self.new.piece.now ≡ length self.old.piece.now }
     {
         self.reading.held = 0;
         self.reading.whole = true;
@@ -163,7 +168,7 @@ impl<'a> Lines<'a> {
     }
 
     // The next line, if there is one: no longer than the text that was lent. The line is lent from self, so what self is after the call is said
-    // of when the line is given back: where reading has failed there was no line, and the text keeps its length.
+    // of when the line is given back: where reading has failed there was no line, and both arrays keep their length.
     pub fn next(&mut self, source: &mut impl Read) -> Result<Option<Line<'_>>, Unreadable>
         ensures room { IfOk result (λ found. IfSome found (λ (line : Line). length line.text.now ≤ length self.old.text.now)) }
         ensures* given_back { sem 𝓛 (GivenBack self.entry result) }

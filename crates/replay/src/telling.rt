@@ -28,7 +28,7 @@ pub fn finding(paper: &mut Paper, reply: Reply) {
 }
 
 // Tells of each word that is no longer what it was, and takes it over. This looks at 4,700 words for each request.
-// Stays: the place in `before` is looked up by hand, since a zip of the two takes twice the instructions for each word, and nearly twice the time.
+// Stays: the place in `before` is looked up by hand, since a zip of the two takes nearly twice the instructions for each word.
 pub fn changes(book: &[u64], before: &mut [u64], paper: &mut Paper) {
     for (i, word) in book.iter().enumerate() {
         if i < before.len() && before[i] != *word {
